@@ -1,0 +1,4 @@
+pub mod Delays
+pub mod Multiples
+pub mod Histories
+pub mod Numbers

@@ -1,0 +1,4 @@
+pub mod Meanings
+pub mod Parameters
+pub mod Bases
+pub mod Seen
