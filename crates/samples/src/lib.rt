@@ -4,6 +4,8 @@ mod coding_cases;
 #[cfg(test)]
 mod headers;
 #[cfg(test)]
+mod pair_cases;
+#[cfg(test)]
 mod rule_cases;
 #[cfg(test)]
 mod time_cases;

@@ -1,0 +1,4 @@
+pub mod Firsts
+pub mod Views
+pub mod Outlines
+pub mod Memories

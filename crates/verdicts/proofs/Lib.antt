@@ -1,0 +1,4 @@
+pub mod Order
+pub mod Splits
+pub mod Accepts
+pub mod Answering
