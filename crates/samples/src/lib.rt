@@ -8,4 +8,6 @@ mod pair_cases;
 #[cfg(test)]
 mod rule_cases;
 #[cfg(test)]
+mod runs;
+#[cfg(test)]
 mod time_cases;
