@@ -99,10 +99,31 @@ fn in_memory(fault: MemoryFault) -> Result<(), PairFault> {
     Err(PairFault::InMemory(fault))
 }
 
+const TIMES: [Whole; 6] = [
+    Whole { ticks: 0 },
+    Whole { ticks: 2 },
+    Whole { ticks: 5 },
+    Whole { ticks: 0 },
+    Whole { ticks: 2 },
+    Whole { ticks: 7 },
+];
+
+#[test]
+fn times_in_memory() -> Result<(), Fail> {
+    let head = head(3, &[1], 0, 0)?;
+    let mut late = TIMES;
+    late[3] = whole(1);
+    says(&head, &[], &late, in_memory(MemoryFault::Time(3)))?;
+    late[2] = whole(-1);
+    says(&head, &[], &late, in_memory(MemoryFault::Time(2)))?;
+    late[2] = whole(1_000_001);
+    says(&head, &[], &late, in_memory(MemoryFault::Time(2)))
+}
+
 #[test]
 fn memory_is_checked_in_order() -> Result<(), Fail> {
     let head = head(3, &[1], 0, 0)?;
-    let times = [whole(0), whole(2), whole(5), whole(0), whole(2), whole(7)];
+    let times = TIMES;
     let mut late = times;
     late[3] = whole(1);
     let bad = limit(3, 0, 0, 0, 0);
@@ -140,12 +161,7 @@ fn memory_is_checked_in_order() -> Result<(), Fail> {
     )?;
     let far = limit(0, 1, 0, 0, 1_000_001);
     says(&head, &[far, bad], &late, in_memory(MemoryFault::Bound(0)))?;
-    says(&head, &[], &late, in_memory(MemoryFault::Time(3)))?;
-    late[3] = whole(0);
-    late[2] = whole(-1);
-    says(&head, &[], &late, in_memory(MemoryFault::Time(2)))?;
-    late[2] = whole(1_000_001);
-    says(&head, &[], &late, in_memory(MemoryFault::Time(2)))
+    says(&head, &[], &late, in_memory(MemoryFault::Time(3)))
 }
 
 #[test]

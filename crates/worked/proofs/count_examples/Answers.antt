@@ -3,4 +3,4 @@ use Rattle.worked.proofs.count_examples.Needs as need
 
 pub returns : need.returns
 returns c =
-    record { count = refl; hold = (refl, (refl, (refl, (refl, (refl, (refl, (refl, (refl, (refl, (refl, (refl, (refl, tt)))))))))))) }
+    record { count = c .count .ensures; hold = (refl, (refl, (refl, (refl, (refl, (refl, (refl, (refl, (refl, (refl, (refl, (refl, tt)))))))))))) }
