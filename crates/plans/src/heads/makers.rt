@@ -96,8 +96,8 @@ fn padded(tests: &[u8]) -> [u8; 6]
     ensures same { λ r. ⌜ ((i : ℕ) → getD r i 0 ≡ getD (now (tests .entry)) i 0) ⌝ }
 {
     let mut six = [0; 6];
-    for i in 0..tests.len() {
-        six[i] = tests[i];
+    for k in 0..tests.len() {
+        six[k] = tests[k];
     }
     six
 }

@@ -7,9 +7,9 @@ use Rattle.plans.proofs.checks.bad_time_in.Needs as need
 pub loop-point-again : need.loop-point-again
 loop-point-again g c =
     let pair = c .args .pair .now in
-    first-passes (time-refusal (plan-in (g .T·Time .moment) pair) (table-in (g .T·Time .moment) pair) (c .args .row)) (c .loop-point .point) (c .loop-point .inv) (c .in-rest .ensures tt)
+    (first-passes (time-refusal (plan-in (g .T·Time .moment) pair) (table-in (g .T·Time .moment) pair) (c .args .row)) (c .loop-point .point) (c .loop-point .inv .0) (c .in-rest .ensures tt), omega arith)
 
 pub returns-in-Some : need.returns-in-Some
 returns-in-Some g c =
     let pair = c .args .pair .now in
-    first-answers (time-refusal (plan-in (g .T·Time .moment) pair) (table-in (g .T·Time .moment) pair) (c .args .row)) (pair .head .now .points) (c .loop-point .point) _ (omega arith) (c .loop-point .inv) (c .in-Some .ensures tt)
+    first-answers (time-refusal (plan-in (g .T·Time .moment) pair) (table-in (g .T·Time .moment) pair) (c .args .row)) (pair .head .now .points) (c .loop-point .point) _ (omega arith) (c .loop-point .inv .0) (c .in-Some .ensures tt)

@@ -3,8 +3,8 @@ use Prim.Native.Nat.{ℕ, _<_, _≤_}
 use lib.ListN.{length, getD}
 use Rattle.plans.proofs.heads.makers.padded.Given as given
 
-abbrev pub Inv-loop-i : given.InvT-loop-i
-Inv-loop-i l =
+abbrev pub Inv-loop-k : given.InvT-loop-k
+Inv-loop-k l =
     (length (l .six) ≡ 6)
-    × ((k : ℕ) → k < l .i → getD (l .six) k 0 ≡ getD (l .tests) k 0)
-    × ((k : ℕ) → l .i ≤ k → getD (l .six) k 0 ≡ 0)
+    × ((i : ℕ) → i < l .k → getD (l .six) i 0 ≡ getD (l .tests) i 0)
+    × ((i : ℕ) → l .k ≤ i → getD (l .six) i 0 ≡ 0)
