@@ -115,7 +115,7 @@ fn time_fault<T: Time>(pair: &Pair<T>, row: u8, point: u8) -> Option<MemoryFault
 }
 
 // Whether a time keeps the rule of a table, and stands at zero if it is the start's.
-fn is_allowed<T: Time>(point: u8, time: T) -> bool
+pub fn is_allowed<T: Time>(point: u8, time: T) -> bool
     ensures { λ r. ⌜ r ≡ allowed point (T·Time .moment time) ⌝ }
 {
     is_table_time(time) && (point != 0 || is_at_zero(time))

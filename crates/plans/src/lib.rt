@@ -7,6 +7,7 @@ mod limits;
 mod pairs;
 
 pub use checks::check_pair;
+pub use checks::is_allowed;
 pub use faults::HeadFault;
 pub use faults::HeadFaultDebug;
 pub use faults::HeadFaultPartialEq;

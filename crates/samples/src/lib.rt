@@ -10,4 +10,6 @@ mod rule_cases;
 #[cfg(test)]
 mod runs;
 #[cfg(test)]
+mod table_files;
+#[cfg(test)]
 mod time_cases;

@@ -1,0 +1,9 @@
+pub mod Laid
+pub mod Timed
+pub mod Stepping
+pub mod Judging
+pub mod Putting
+pub mod Outcomes
+pub mod Spelled
+pub mod Headed
+pub mod Rounds
