@@ -1,5 +1,7 @@
 // Judges the worked examples through the code, with whole times and with fine ones, and prints each
 // with its verdict.
+#![tactic(auto)]
+
 use anyhow::anyhow;
 use fine::Fine;
 use heads::Head;

@@ -1,10 +1,10 @@
 -- Fields one after another, and that a refusal names the first that is not kept.
-use Rattle.std.proofs.Common.{◌≡◌, ℕ, ◌+◌, ◌<◌, ◌≤◌, Bool, true, false, cond, leb, ◌⊎◌, List, [], ◌∷◌, ◌++◌, length, sym, refl, ap, ◌∙◌, subst, inl, inr, arith}
+use Rattle.std.proofs.Common.{◌≡◌, ℕ, ◌+◌, Bool, true, false, cond, leb, List, [], ◌∷◌, ◌++◌, length, sym, refl, subst, inl, inr, arith}
 use Rattle.std.proofs.lemmas.List.{append-nil}
 use Rattle.std.proofs.lemmas.Bool.Decides.{nat_tests}
 use Rattle.refusals.specs.Answers.{Answer, given, refused, and_then, refusal_at}
 use Rattle.refusals.specs.declared.Refusal.{Refusal}
-use Rattle.fields.specs.Fields.{Field, number_at, field_answer, checked, Kept, Ended, Broken, AllKept, FirstRefused, JudgedFields}
+use Rattle.fields.specs.Fields.{Field, number_at, field_answer, checked, JudgedFields}
 
 pub never : {X Z : Type 0} (r : Refusal) (x : X) → refused r ≡ given x → Z
 never r x e = let z : ◌≡◌ {A = ℕ} 0 1 = cc in absurd (omega arith)

@@ -1,5 +1,5 @@
 -- A header from its parts: mark and version, then counts, then figures.
-use Rattle.std.proofs.Common.{◌≡◌, ℕ, ◌+◌, true, List, [], ◌++◌, sym, refl, ap, ◌∙◌, subst, arith}
+use Rattle.std.proofs.Common.{◌≡◌, ℕ, ◌+◌, true, List, [], ◌++◌, sym, ap, ◌∙◌, subst, arith}
 use Rattle.refusals.specs.Answers.{Answer, given, refused}
 use Rattle.refusals.specs.declared.Refusal.{Refusal}
 use Rattle.std.proofs.lemmas.Bool.Decides.{nat_tests}
@@ -9,7 +9,7 @@ use Rattle.files.specs.declared.headers.Version.{Version}
 use Rattle.files.specs.declared.headers.Version.TheVariants.{Whole, Fine}
 use Rattle.files.specs.declared.headers.PlanHeader.{PlanHeader}
 use Rattle.fields.specs.Fields.{Field, number_at, checked}
-use Rattle.files.specs.Headers.{version_number, version_of, plan_starts, plan_start, plan_starts_of, plan_start_of, plan_header_of, table_starts, table_start, count_fields, counts_in, figure_fields, figures_in, same_count_fields, header_in, plan_header, table_fields, table_header}
+use Rattle.files.specs.Headers.{version_number, version_of, plan_starts, plan_start, plan_starts_of, plan_start_of, plan_header_of, table_starts, table_start, count_fields, counts_in, figure_fields, figures_in, same_count_fields, header_in, plan_header, table_header}
 use Rattle.fields.proofs.Chains.{onward, halted, judged}
 
 abbrev assembled : Version → (ℕ × ℕ × ℕ) → (ℕ × ℕ) → PlanHeader

@@ -120,7 +120,7 @@ fn plan_start_of(file: &[u8], version: Version) -> Result<usize, HeaderFault>
         };
         return Err(HeaderFault::Ended(file.len()));
     };
-    if u16::from_be_bytes([*high, *low]) != version.number() {
+    if version.number() != u16::from_be_bytes([*high, *low]) {
         return Err(HeaderFault::Version);
     }
     Ok(file.len() - rest.len())

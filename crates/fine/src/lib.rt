@@ -1,4 +1,6 @@
 // The kind of time that has ticks and grains. A change of how fine times are kept or coded is made here.
+#![tactic(auto)]
+
 ghost use Rattle.std.specs.Prelude.{◌≡◌};
 ghost use Rattle.times.specs.Coding.{fine_kind};
 ghost use Rattle.times.specs.Moments.{earlier, minus, moment_of};

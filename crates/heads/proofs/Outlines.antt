@@ -1,11 +1,10 @@
 -- Which numbers make a head.
-use Rattle.std.proofs.Common.{◌≡◌, ℕ, ◌<◌, ◌≤◌, Bool, true, false, not, ◌&&◌, eqb, ltb, leb, ◌⊎◌, List, length, get_or, take, Some, None, Option, sym, refl, ap, ◌∙◌, subst, inl, inr, ⊎_elim, arith, length-take}
+use Rattle.std.proofs.Common.{◌≡◌, ℕ, ◌<◌, ◌≤◌, Bool, true, false, not, eqb, List, length, get_or, take, Some, None, Option, sym, refl, ◌∙◌, subst, inl, inr, arith, length-take}
 use Rattle.std.proofs.lemmas.List.{get_or_default, get_or_past, get_or-take, same_lists}
-use Rattle.std.proofs.lemmas.Bool.{and_parts, and_from, not-true, not-false, both_ways}
+use Rattle.std.proofs.lemmas.Bool.{and_parts, and_from, not-true, both_ways}
 use Rattle.std.proofs.lemmas.Bool.Decides.{nat_tests}
-use Rattle.refusals.specs.Answers.{Answer, given, refused, unless, refusal_at}
+use Rattle.refusals.specs.Answers.{Answer, unless}
 use Rattle.refusals.specs.declared.Refusal.{Refusal}
-use Rattle.refusals.specs.Searches.{or_else, first, when, every}
 use Rattle.heads.specs.Heads.{Outline, counted, figured, is_new, is_test, test_refusal, head_refusal, new_head, Counted, Figured, IsTest, IsHead, HeadRefused, counts, figures, test, HeadSays}
 use Rattle.refusals.proofs.Firsts.{or_none, or_some, when_none, when_some, first_none, first_some, every_true, true_every}
 

@@ -1,5 +1,7 @@
 // The head of a plan: how many points, which of them are tests, and its reaction rule. A change of what a
 // head may be, or of what it says, is made here.
+#![tactic(auto)]
+
 ghost use Rattle.std.specs.Prelude.{◌≡◌, ℕ, ◌<◌, ◌≤◌, length, ◌≢◌, slice_index};
 
 mod accessors;

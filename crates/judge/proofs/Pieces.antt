@@ -1,7 +1,7 @@
 -- Pieces of a line one after another, and the decimals among them.
-use Rattle.std.proofs.Common.{◌≡◌, ℕ, zero, suc, ◌+◌, ◌/◌, ◌%◌, ◌^◌, ◌<◌, ◌≤◌, List, [], ◌∷◌, ◌++◌, length, get_or, take, decimal, sym, refl, ap, ◌∙◌, subst, append_assoc, zero-add, arith, length-append, rules}
+use Rattle.std.proofs.Common.{◌≡◌, ℕ, zero, suc, ◌+◌, ◌/◌, ◌%◌, ◌^◌, ◌<◌, ◌≤◌, List, [], ◌∷◌, ◌++◌, length, get_or, take, decimal, ap, ◌∙◌, append_assoc, zero-add, arith, length-append}
 use Rattle.std.proofs.lemmas.Fmt.{decimal_digit, decimal_step, decimal_is_IsNumeral, length-decimal-le, decimal_nonempty, first_decimal}
-use Rattle.judge.specs.Lines.{Extended, ReadsBack, DecimalsReadBack}
+use Rattle.judge.specs.Lines.{Extended, DecimalsReadBack}
 
 pub extended_more : (a b c p q : List ℕ) (at n m : ℕ) → Extended a at p b n → Extended b n q c m → Extended a at (p ++ q) c m
 extended_more a b c p q at n m h k =

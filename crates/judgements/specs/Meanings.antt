@@ -2,7 +2,7 @@
 use Rattle.std.specs.Prelude.{◌≡◌, ◌↔◌, List, ◌++◌, ℕ, ◌^◌, ◌<◌, length}
 use Rattle.refusals.specs.Answers.{given}
 use Rattle.refusals.specs.declared.Refusal.{Refusal}
-use Rattle.fields.specs.Fields.{Field, AllKept, FirstRefused}
+use Rattle.fields.specs.Fields.{Field, FirstRefused}
 use Rattle.times.specs.Coding.{Kind}
 use Rattle.times.specs.Moments.{Moment}
 use Rattle.plans.specs.Plans.{limit_at}
@@ -12,7 +12,7 @@ use Rattle.files.specs.Headers.{plan_fields}
 use Rattle.plan_contents.specs.Contents.{Contents, plan_in}
 use Rattle.plan_contents.specs.Readings.{body_fields, read_plan}
 use Rattle.table_files.specs.Layouts.{header_fields_for, body_for}
-use Rattle.judgements.specs.Judgements.{Judgement, accepted, in_plan, in_table, breaks, ahead, most_limits, rule_in, table_in, Told, told}
+use Rattle.judgements.specs.Judgements.{Judgement, accepted, in_plan, in_table, breaks, ahead, most_limits, rule_in, table_in, Told}
 
 -- the fields of a plan file, and those of a table file for it
 abbrev pub all_plan_fields : List ℕ → List Field

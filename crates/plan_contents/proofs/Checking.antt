@@ -1,5 +1,5 @@
 -- The answer of a whole plan file from those of its parts.
-use Rattle.std.proofs.Common.{◌≡◌, ℕ, ◌+◌, ◌≤◌, List, [], ◌∷◌, ◌++◌, length, sym, refl, ap, ◌∙◌, subst}
+use Rattle.std.proofs.Common.{◌≡◌, ℕ, ◌+◌, List, sym, ap, ◌∙◌, subst}
 use Rattle.refusals.specs.Answers.{Answer, given, refused}
 use Rattle.refusals.specs.declared.Refusal.{Refusal}
 use Rattle.fields.specs.Laid.{passing}
@@ -7,13 +7,12 @@ use Rattle.fields.specs.Readings.{room_answer, AllRead}
 use Rattle.fields.proofs.Chains.{passed, stopped, judged}
 use Rattle.fields.proofs.Laid.{yes, length-laid}
 use Rattle.fields.proofs.Readings.{header_stops, room_stops, body_is, room_for}
-use Rattle.times.specs.Coding.{Kind, whole_kind, fine_kind}
+use Rattle.times.specs.Coding.{Kind}
 use Rattle.files.specs.Headers.{kind_of, header_in, plan_fields_of, plan_header_of}
 use Rattle.files.specs.declared.headers.Version.{Version}
 use Rattle.files.specs.declared.headers.Version.TheVariants.{Whole, Fine}
 use Rattle.files.specs.declared.headers.PlanHeader.{PlanHeader}
-use Rattle.plan_contents.specs.Contents.{Contents}
-use Rattle.plan_contents.specs.Readings.{version_for, header, body_fields, limits_in, contents_in, read_plan, limit_count, place}
+use Rattle.plan_contents.specs.Readings.{version_for, header, body_fields, contents_in, read_plan, limit_count, place}
 use Rattle.plan_records.specs.Records.{limit_in}
 
 pub version_is : (v : Version) (kind : Kind) → kind_of v ≡ kind → v ≡ version_for kind

@@ -1,6 +1,6 @@
 -- A file whose fields are kept, cut into its contents: they are a plan, and the file is their bytes.
 use Rattle.std.proofs.Common.{◌≡◌, ℕ, ◌+◌, ◌-◌, ◌*◌, ◌<◌, ◌≤◌, List, [], ◌∷◌, ◌++◌, length, get_or, take, drop, sym, refl, ap, ◌∙◌, subst, arith}
-use Rattle.std.specs.List.{flat_map, AllByRecursion as All}
+use Rattle.std.specs.List.{flat_map, AllByRecursion}
 use Rattle.std.proofs.ByRecursion.{All-from_get_or}
 use Rattle.std.proofs.lemmas.List.{get_or-drop, get_or-take, drop-drop, length-drop, length-take-le, take_all, take-append-drop}
 use Rattle.fields.specs.Fields.{AllKept}
@@ -89,7 +89,7 @@ module _ (k : Kind) (file : List ℕ) (headed : AllKept file (plan_fields_of (ve
       laid_same h.limits (λ j. limit_in k file (place file (h.points + h.tests + j)) ∷ []) (λ j. limit_in k file (end + h.tests + limit_size k * j) ∷ []) (λ j l. ap (λ l. l ∷ []) (limit_read j l ∙ ap (λ k'. limit_in k file (end + h.tests + limit_size k' * j)) shows.of_kind))
 
   module _ (small : Bytes file) where
-    all_of_kind : All (λ (l : Limit Moment). OfKind k l.bound) (limits_in file k)
+    all_of_kind : AllByRecursion (λ (l : Limit Moment). OfKind k l.bound) (limits_in file k)
     all_of_kind =
         All-from_get_or (λ (l : Limit Moment). OfKind k l.bound) (limits_in file k) (limit_in k file 0) (λ j b.
         let count = shows.limit_count in

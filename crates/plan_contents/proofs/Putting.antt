@@ -1,7 +1,7 @@
 -- The parts of a plan file put one after the other.
 use Rattle.std.proofs.Common.{◌≡◌, ℕ, ◌+◌, ◌*◌, ◌/◌, ◌%◌, ◌<◌, ◌≤◌, List, [], ◌∷◌, ◌++◌, map, length, get_or, take, drop, sym, refl, ap, ◌∙◌, subst, append_assoc, add-one, arith}
 use lib.Seq.{paste}
-use Rattle.std.specs.List.{flat_map, AllByRecursion as All}
+use Rattle.std.specs.List.{flat_map, AllByRecursion}
 use Rattle.std.proofs.lemmas.List.Edits.{paste_none, paste-paste, paste_all}
 use Rattle.std.proofs.ByRecursion.{All-push}
 use Rattle.std.proofs.lemmas.List.{map_more, flat_map_more, length-append, length-map, length-take-le}
@@ -78,10 +78,10 @@ module _ {X : Type 0} (of : X → Moment) (kind : Kind) where
         let twice = paste-paste d at before (limit_bytes kind (limit_of of l)) (limit_size kind * i) (limit_size kind) len (sym (length-limit_bytes kind (limit_of of l))) room in
         simp (e, bytes, limits_more kind i) twice
 
-    pub bound_more : All (λ l. OfKind kind l.bound) (so_far ls i) → OfKind kind (of l.bound) → All (λ l. OfKind kind l.bound) (so_far ls (i + 1))
+    pub bound_more : AllByRecursion (λ l. OfKind kind l.bound) (so_far ls i) → OfKind kind (of l.bound) → AllByRecursion (λ l. OfKind kind l.bound) (so_far ls (i + 1))
     bound_more all here =
         let P : Limit Moment → Type 0 = λ l. OfKind kind l.bound in
-        subst (All P) (sym more) (All-push P (so_far ls i) (limit_of of l) all here)
+        subst (AllByRecursion P) (sym more) (All-push P (so_far ls i) (limit_of of l) all here)
 
 -- the whole file: header, names, tests and limits
 module _ (kind : Kind) (c : Contents) (d headed named tested after : List ℕ) where

@@ -1,6 +1,6 @@
 -- Tests and limits that lie one after the other, and their bytes.
 use Rattle.std.proofs.Common.{◌≡◌, ℕ, zero, suc, ◌+◌, ◌*◌, ◌<◌, ◌≤◌, List, [], ◌∷◌, ◌++◌, length, get_or, take, drop, sym, refl, ap, ◌∙◌, arith, take-add}
-use Rattle.std.specs.List.{flat_map, AllByRecursion as All}
+use Rattle.std.specs.List.{flat_map, AllByRecursion}
 use Rattle.std.proofs.lemmas.List.{ext_get_or, get_or-drop, get_or-take, drop-drop, drop_at, flat_map_more, length-drop, length-take-le}
 use Rattle.fields.specs.Laid.{laid}
 use Rattle.fields.proofs.Laid.{length-laid, get_or-laid}
@@ -68,7 +68,7 @@ module _ (kind : Kind) (file : List ℕ) where
       let unwanted : get_or file (at + 3) 0 ≡ l.unwanted = byte 3 in
       same_limit from to wanted unwanted (time_here kind file (at + 4) l.bound rest (sym (drop-drop 4 at file) ∙ ap (drop 4) e) of)
 
-  pub limits_there : (ls : List (Limit Moment)) (at j : ℕ) (d : Limit Moment) → drop at file ≡ flat_map (limit_bytes kind) ls → All (λ (l : Limit Moment). OfKind kind l.bound) ls → j < length ls → limit_in kind file (at + limit_size kind * j) ≡ get_or ls j d
+  pub limits_there : (ls : List (Limit Moment)) (at j : ℕ) (d : Limit Moment) → drop at file ≡ flat_map (limit_bytes kind) ls → AllByRecursion (λ (l : Limit Moment). OfKind kind l.bound) ls → j < length ls → limit_in kind file (at + limit_size kind * j) ≡ get_or ls j d
   limits_there [] at j d e all h = absurd (omega arith)
   limits_there (l ∷ ls) at zero d e all h =
       let here : at + limit_size kind * 0 ≡ at = omega arith in

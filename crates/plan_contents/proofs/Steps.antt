@@ -1,5 +1,5 @@
 -- A reader that passes one record after another.
-use Rattle.std.proofs.Common.{◌≡◌, ℕ, zero, suc, ◌+◌, ◌<◌, ◌≤◌, Bool, true, false, cond, ltb, List, [], ◌∷◌, ◌++◌, length, Some, None, Option, sym, refl, ap, ◌∙◌, subst, add-one, arith}
+use Rattle.std.proofs.Common.{◌≡◌, ℕ, zero, suc, ◌+◌, ◌<◌, ◌≤◌, Bool, true, false, cond, ltb, List, [], ◌∷◌, length, Option, sym, refl, ap, ◌∙◌, add-one, arith}
 use Rattle.std.proofs.lemmas.Bool.{lt-ltb, le-ltb}
 use Rattle.refusals.specs.Answers.{Answer, given, refused}
 use Rattle.refusals.specs.declared.Refusal.{Refusal}
@@ -9,7 +9,7 @@ use Rattle.fields.specs.Readings.{end_field}
 use Rattle.fields.proofs.Chains.{passed, stopped}
 use Rattle.fields.proofs.Laid.{yes, kept_left, kept_right}
 use Rattle.files.specs.declared.headers.PlanHeader.{PlanHeader}
-use Rattle.plan_records.specs.Records.{Sort, a_name, a_test, a_limit, the_end, Part, first_place, record_count, sort_of, size_of, part_of, record_place, record_fields}
+use Rattle.plan_records.specs.Records.{Sort, a_name, a_test, a_limit, the_end, Part, first_place, record_count, sort_of, part_of, record_place, record_fields}
 use Rattle.plan_records.specs.Readers.{next_answer, after, stood}
 use Rattle.plan_records.specs.declared.readers.Reader.{Reader}
 use Rattle.plan_records.proofs.Recording.{record_inside}

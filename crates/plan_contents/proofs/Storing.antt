@@ -1,5 +1,5 @@
 -- What a file that was read has stored, by the numbers that the code computes with.
-use Rattle.std.proofs.Common.{◌≡◌, ℕ, ◌+◌, ◌-◌, ◌*◌, ◌≤◌, List, [], ◌∷◌, length, take, drop, sym, refl, ap, ◌∙◌, subst, mul-le-mul, arith}
+use Rattle.std.proofs.Common.{◌≡◌, ℕ, ◌+◌, ◌*◌, ◌≤◌, List, [], ◌∷◌, length, sym, ap, ◌∙◌, subst, mul-le-mul, arith}
 use Rattle.refusals.specs.Answers.{Answer, given, refused}
 use Rattle.fields.specs.Laid.{laid}
 use Rattle.fields.proofs.Readings.{read_says}
@@ -13,7 +13,7 @@ use Rattle.files.specs.Headers.{plan_fields_of}
 use Rattle.files.specs.declared.headers.PlanHeader.{PlanHeader}
 use Rattle.plan_records.specs.Records.{part_from, limit_in}
 use Rattle.plan_contents.specs.Contents.{Contents, contents}
-use Rattle.plan_contents.specs.Readings.{version_for, header, body_fields, names_in, tests_in, limits_in, contents_in, read_plan, limit_count, PlanSays}
+use Rattle.plan_contents.specs.Readings.{version_for, header, body_fields, names_in, limits_in, contents_in, read_plan, limit_count, PlanSays}
 use Rattle.plan_contents.proofs.Bodies.{tests_place}
 use Rattle.plan_contents.proofs.Headed.{within}
 use Rattle.plan_contents.proofs.Cutting.{ends_at, tests_part, limits_laid}

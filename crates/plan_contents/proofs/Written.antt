@@ -1,6 +1,6 @@
 -- How long a plan file is, that what is written is a plan, and what the answer of a writer says.
 use Rattle.std.proofs.Common.{◌≡◌, ℕ, zero, suc, ◌+◌, ◌*◌, ◌<◌, ◌≤◌, Bool, true, false, cond, ltb, leb, List, ◌++◌, length, get_or, drop, Some, None, sym, refl, ap, ◌∙◌, subst, arith}
-use Rattle.std.specs.List.{AllByRecursion as All}
+use Rattle.std.specs.List.{AllByRecursion}
 use Rattle.std.proofs.lemmas.Bool.{and_parts, leb-true, ltb-true, ltb-false, lt-ltb, le-ltb}
 use Rattle.refusals.specs.Answers.{Answer, given, refused, and_then, unless, refusal_at}
 use Rattle.refusals.specs.declared.Refusal.{Refusal}
@@ -102,7 +102,7 @@ module _ (kind : Kind) (c : Contents) where
     answer_says a e = subst (WriteSays kind c room) (sym e) write_says
 
     -- what is written is a plan
-    pub is_plan : (n : ℕ) → IsHead c.head → All (λ (l : Limit Moment). OfKind kind l.bound) c.limits → IsWritten kind c room n → IsPlan kind c
+    pub is_plan : (n : ℕ) → IsHead c.head → AllByRecursion (λ (l : Limit Moment). OfKind kind l.bound) c.limits → IsWritten kind c room n → IsPlan kind c
     is_plan n head coded says =
         record { head = head; limits = says.limits; names = names_are c.names c.head.points says.names; of_kind = coded }
 

@@ -1,6 +1,6 @@
 -- What a plan file holds, and its bytes.
 use Rattle.std.specs.Prelude.{◌≡◌, ℕ, ◌+◌, ◌*◌, ◌/◌, ◌%◌, ◌<◌, List, [], ◌∷◌, ◌++◌, length}
-use Rattle.std.specs.List.{flat_map, AllByRecursion as All}
+use Rattle.std.specs.List.{flat_map, AllByRecursion}
 use Rattle.fields.specs.Fields.{AllKept}
 use Rattle.times.specs.Coding.{Kind, version_of, width_of, word_bytes, time_bytes}
 use Rattle.times.specs.Moments.{Moment}
@@ -33,7 +33,7 @@ pub record IsPlan (kind : Kind) (c : Contents) : Type 0 where
   pub head : IsHead c.head
   pub limits : LimitsKept (plan_in c)
   pub names : IsNames c.head.points c.names
-  pub of_kind : All (λ (l : Limit Moment). OfKind kind l.bound) c.limits
+  pub of_kind : AllByRecursion (λ (l : Limit Moment). OfKind kind l.bound) c.limits
 
 -- a number in two bytes
 abbrev pub half_bytes : ℕ → List ℕ

@@ -7,7 +7,7 @@ use Rattle.fields.specs.Laid.{laid}
 use Rattle.fields.specs.Readings.{end_field, read_file, ReadSays, RefusedExactly}
 use Rattle.times.specs.Coding.{Kind, whole_kind, fine_kind}
 use Rattle.times.specs.Moments.{Moment}
-use Rattle.heads.specs.Heads.{Outline, outline, outline_of}
+use Rattle.heads.specs.Heads.{outline, outline_of}
 use Rattle.plans.specs.Views.{limit_of}
 use Rattle.heads.specs.declared.Head.{Head}
 use Rattle.plans.specs.declared.limits.Limit.{Limit}

@@ -1,5 +1,5 @@
 -- Limits that are stored one by one, and heads that are made.
-use Rattle.std.proofs.Common.{◌≡◌, ℕ, ◌+◌, ◌*◌, ◌<◌, ◌≤◌, List, [], ◌∷◌, map, length, take, drop, set, sym, refl, ap, ◌∙◌, subst}
+use Rattle.std.proofs.Common.{◌≡◌, ℕ, ◌+◌, ◌<◌, List, [], ◌∷◌, map, length, take, drop, set, sym, ap, ◌∙◌}
 use Rattle.std.proofs.lemmas.List.{take_more_set, map_push, drop-set-lt}
 use Rattle.refusals.specs.declared.Refusal.{Refusal}
 use Rattle.fields.specs.Laid.{laid}

@@ -1,5 +1,7 @@
 // Plan files read into a head and lent limits.
 // A change of what reading a plan stores is made here.
+#![tactic(auto)]
+
 mod checks;
 mod faults;
 mod filling;

@@ -1,5 +1,5 @@
 -- The records of a file laid end to end.
-use Rattle.std.proofs.Common.{◌≡◌, ℕ, zero, suc, ◌+◌, ◌-◌, ◌<◌, ◌≤◌, List, [], ◌∷◌, ◌++◌, length, take, drop, Some, None, Option, sym, refl, ap, ◌∙◌, subst, arith, take-add}
+use Rattle.std.proofs.Common.{◌≡◌, ℕ, zero, suc, ◌+◌, ◌-◌, ◌≤◌, List, ◌++◌, length, take, drop, Some, None, Option, sym, refl, ap, ◌∙◌, subst, arith, take-add}
 use Rattle.std.proofs.lemmas.List.{append-nil, take_all, drop-drop, length-drop}
 use Rattle.std.proofs.lemmas.Bool.{leb-true}
 use Rattle.refusals.specs.Answers.{Answer, given, refused}

@@ -1,5 +1,5 @@
 -- Loops over names.
-use Rattle.std.proofs.Common.{◌≡◌, ℕ, zero, suc, ◌+◌, ◌*◌, ◌<◌, ◌≤◌, Bool, true, false, not, eqb, List, [], ◌∷◌, length, get_or, sym, refl, ap, ◌∙◌, subst, add-one, arith}
+use Rattle.std.proofs.Common.{◌≡◌, ℕ, ◌+◌, ◌<◌, ◌≤◌, true, false, not, eqb, List, length, get_or, sym, refl, ap, ◌∙◌, subst, add-one, arith}
 use Rattle.std.proofs.lemmas.Bool.Decides.{nat_tests}
 use Rattle.refusals.specs.Answers.{given, refused}
 use Rattle.refusals.specs.declared.Refusal.{Refusal}
@@ -7,7 +7,7 @@ use Rattle.fields.specs.Fields.{checked}
 use Rattle.fields.specs.Laid.{passing}
 use Rattle.fields.proofs.Chains.{passed, stopped, judged}
 use Rattle.fields.proofs.Laid.{yes}
-use Rattle.refusals.proofs.Firsts.{every_more, every_stops}
+use Rattle.refusals.proofs.Firsts.{every_stops}
 use Rattle.plan_records.specs.Names.{name_size, name_place, same_name, new_name, name_fields}
 
 pub equal_bytes : (a b : ℕ) → a ≡ b → eqb a b ≡ true

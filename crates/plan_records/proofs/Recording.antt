@@ -1,12 +1,12 @@
 -- Records at a place, and a reader that passes them.
-use Rattle.std.proofs.Common.{◌≡◌, ℕ, zero, suc, ◌+◌, ◌-◌, ◌<◌, ◌≤◌, Bool, true, false, cond, ltb, List, [], ◌∷◌, ◌++◌, length, take, drop, Some, None, Option, sym, refl, ap, ◌∙◌, subst, arith}
+use Rattle.std.proofs.Common.{◌≡◌, ℕ, ◌+◌, ◌<◌, ◌≤◌, Bool, true, false, cond, ltb, List, length, refl, ap, ◌∙◌, arith}
 use Rattle.std.proofs.lemmas.Bool.{ltb-true}
 use Rattle.refusals.specs.Answers.{Answer, given, refused}
 use Rattle.refusals.specs.declared.Refusal.{Refusal}
 use Rattle.fields.specs.Fields.{checked, AllKept}
-use Rattle.fields.proofs.Chains.{never, passed, stopped, judged}
+use Rattle.fields.proofs.Chains.{passed, stopped, judged}
 use Rattle.files.specs.declared.headers.PlanHeader.{PlanHeader}
-use Rattle.plan_records.specs.Records.{Sort, a_name, a_test, a_limit, the_end, Part, record_count, sort_of, fields_of, size_of, part_of}
+use Rattle.plan_records.specs.Records.{Sort, a_name, a_test, a_limit, the_end, record_count, sort_of, fields_of, size_of, part_of}
 use Rattle.plan_records.specs.Readers.{next_answer, after}
 use Rattle.plan_records.specs.declared.readers.Reader.{Reader}
 

@@ -1,5 +1,7 @@
 // The records of a plan file, read one at a time: names, tests and limits.
 // A change of what follows the header of a plan file is made here.
+#![tactic(auto)]
+
 mod bounds;
 mod faults;
 mod names;

@@ -1,5 +1,7 @@
 // Plan files written from a head, limits and names, for either kind of time.
 // A change of how the parts of a plan file are put into bytes is made here.
+#![tactic(auto)]
+
 mod faults;
 mod putting;
 mod writing;

@@ -1,7 +1,7 @@
 // The parts of a plan file, each put at its place.
 ghost use Rattle.std.specs.Prelude.{◌≡◌, ◌+◌, ◌*◌, ◌≤◌, [], map, length};
 ghost use Rattle.std.proofs.Math.Seq.{paste};
-ghost use Rattle.std.specs.List.{flat_map, AllByRecursion as All};
+ghost use Rattle.std.specs.List.{flat_map, AllByRecursion};
 ghost use Rattle.times.specs.Coding.{time_bytes, width_of, word_bytes};
 ghost use Rattle.time_fields.specs.Kinds.{OfKind};
 ghost use Rattle.heads.specs.Heads.{tests_of};
@@ -65,7 +65,7 @@ pub(crate) fn put_tests(head: &Head, place: usize, file: &mut [u8])
 pub(crate) fn put_limits<T: Time>(limits: &[Limit<T>], place: usize, file: &mut [u8])
     requires { place + (4 + width_of T.Time.kind) * length limits.now ≤ length file.old }
     ensures bytes { file.new ≡ paste file.old place (flat_map (limit_bytes T.Time.kind) (map (limit_of T.Time.moment) limits.now)) ((4 + width_of T.Time.kind) * length limits.now) }
-    ensures coded { All (λ l. OfKind T.Time.kind l.bound) (map (limit_of T.Time.moment) limits.now) }
+    ensures coded { AllByRecursion (λ l. OfKind T.Time.kind l.bound) (map (limit_of T.Time.moment) limits.now) }
 {
     let mut at = place;
     for j in 0..limits.len() {

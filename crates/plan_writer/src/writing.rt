@@ -1,6 +1,6 @@
 // Writing a plan file: all is checked before a byte is written.
 ghost use Rattle.std.specs.Prelude.{◌≡◌, ◌^◌, ◌<◌, ◌≤◌, ◌++◌, length, drop};
-ghost use Rattle.std.specs.List.{AllByRecursion as All};
+ghost use Rattle.std.specs.List.{AllByRecursion};
 ghost use Rattle.refusals.specs.Answers.{answer_of};
 ghost use Rattle.refusals.specs.declared.Refusal.{Refusal};
 ghost use Rattle.fields.specs.Readings.{room_answer};
@@ -74,7 +74,7 @@ fn check_room(room: usize, length: usize) -> Result<(), PlanWriteFault>
 fn put_plan<T: Time>(head: &Head, limits: &[Limit<T>], names: &[u8], file: &mut [u8])
     requires { (length limits.now ≤ 256) × (plan_length T.Time.kind (contents_of T.Time.moment head.now limits.now names.now) ≤ length file.old) }
     ensures bytes { file.new ≡ plan_bytes T.Time.kind (contents_of T.Time.moment head.now limits.now names.now) ++ drop (plan_length T.Time.kind (contents_of T.Time.moment head.now limits.now names.now)) file.old }
-    ensures coded { All (λ l. OfKind T.Time.kind l.bound) (contents_of T.Time.moment head.now limits.now names.now).limits }
+    ensures coded { AllByRecursion (λ l. OfKind T.Time.kind l.bound) (contents_of T.Time.moment head.now limits.now names.now).limits }
 {
     put_header(head, limits, file);
     let tests = 17 + names.len();

@@ -1,5 +1,7 @@
 // Plans and tables in memory: limits, where a table keeps its times, and the checks that every call makes of
 // what it is lent. A change of a rule of limits or of the layout of a table is made here.
+#![tactic(auto)]
+
 mod checks;
 mod faults;
 mod limits;

@@ -9,7 +9,7 @@ use time_rules::whole_ticks;
 use times::Time;
 
 // The head and the limits of a plan, and the times of a table: nothing is known of them yet.
-#[derive(Drop)]
+#[derive(Clone, Copy)]
 pub struct Pair<'a, T> {
     pub head: &'a Head,
     pub limits: &'a [Limit<T>],

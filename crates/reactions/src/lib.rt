@@ -1,5 +1,7 @@
 // Which rows act on what they do not see: the first early offence, and the first offence of all, for every kind of
 // time and every rule. A change of what two rows see, or of the order of offences, is made here.
+#![tactic(auto)]
+
 ghost use Rattle.std.specs.Prelude.{◌≡◌};
 ghost use Rattle.std.specs.Option.{option_map};
 ghost use Rattle.refusals.specs.Searches.{same};

@@ -1,7 +1,7 @@
 -- A number other than 0 names rounds.
-use Rattle.std.proofs.Common.{◌≡◌, ℕ, zero, suc, ◌<◌, refl, arith}
+use Rattle.std.proofs.Common.{◌≡◌, ℕ, zero, suc, refl, arith}
 use Rattle.std.proofs.lemmas.Bool.Decides.{nat_tests}
-use Rattle.refusals.specs.Answers.{Answer, given}
+use Rattle.refusals.specs.Answers.{Answer}
 use Rattle.rules.specs.Meanings.{Same, base_rule, rounds}
 use Rattle.rules.specs.Parameters.{checked, is_base, is_round}
 

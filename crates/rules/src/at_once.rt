@@ -2,7 +2,6 @@
 ghost use Rattle.std.specs.Prelude.{◌≡◌};
 ghost use Rattle.rules.specs.Meanings.{prompt};
 ghost use Rattle.rules.specs.Delays.{earlier_trans};
-ghost use Rattle.std.proofs.Common.{rules};
 
 use crate::meanings::Rule;
 use times::Time;
@@ -16,7 +15,7 @@ impl Rule for Prompt {
 
     ghost persists = { λ x i o t u. earlier_trans o t u };
 
-    ghost afterwards = { Prim.search rules };
+    ghost afterwards = { λ x i o t h. h };
 
     fn is_seen<T: Time>(&self, _test: u8, taken: T, at: T) -> bool {
         taken.is_earlier(at)

@@ -1,4 +1,6 @@
 // Rules that say when the outcome of a test is seen.
+#![tactic(auto)]
+
 mod at_once;
 mod bases;
 mod faults;

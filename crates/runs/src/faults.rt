@@ -7,7 +7,7 @@ use crate::Token;
 use plans::MemoryFault;
 use refusals::Refusal;
 
-#[derive(Clone, Copy)]
+#[derive(Clone, Copy, PartialEq, Eq, Debug)]
 pub enum ReleaseFault {
     InMemory(MemoryFault),
     // the run was opened for another number of points or letters

@@ -1,5 +1,7 @@
 // Runs: an accepted table is played one step at a time, and outcomes are told when they are known.
 // A change of what a run answers, or of when a token is spent, is made here.
+#![tactic(auto)]
+
 ghost use Rattle.std.specs.Prelude.{◌≡◌, true};
 
 mod answers;

@@ -1,4 +1,6 @@
 // Tables of cases as tests, in a crate of their own so that the crates that they test stay quick to check.
+#![tactic(auto)]
+
 #[cfg(test)]
 mod coding_cases;
 #[cfg(test)]
@@ -8,8 +10,8 @@ mod pair_cases;
 #[cfg(test)]
 mod rule_cases;
 #[cfg(test)]
-mod runs;
+mod run_cases;
 #[cfg(test)]
-mod table_files;
+mod table_file_cases;
 #[cfg(test)]
 mod time_cases;

@@ -1,4 +1,6 @@
 // Prints what each rule sees of some outcomes at some steps.
+#![tactic(auto)]
+
 ghost use Rattle.std.specs.Prelude.{◌≡◌};
 ghost use Rattle.rules.specs.Meanings.{delayed, prompt, rounds};
 

@@ -1,4 +1,6 @@
 // Sets of points and of letters, as bits: what is in one. A change of how such a set is kept is made here.
+#![tactic(auto)]
+
 ghost use Rattle.std.specs.Prelude.{◌≡◌, ◌<◌, true};
 ghost use Rattle.sets.specs.Sets.{has};
 

@@ -4,6 +4,7 @@ use fine::Fine;
 use heads::Head;
 use plans::{Limit, Pair};
 use std::process::Abort;
+use std::test::Fail;
 use whole::Whole;
 
 const SIX: [u8; 6] = [1, 2, 3, 4, 5, 6];

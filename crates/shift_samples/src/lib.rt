@@ -1,4 +1,6 @@
 // Pairs that are shifted, as tests, in a crate of their own so that the call stays quick to check.
+#![tactic(auto)]
+
 #[cfg(test)]
 mod bounds;
 #[cfg(test)]

@@ -5,6 +5,7 @@ use offences::Offence;
 use plans::{Limit, Pair};
 use rules::{Prompt, Rounds, Rule};
 use std::process::Abort;
+use std::test::Fail;
 use verdicts::{PairFault, judge};
 use whole::Whole;
 

@@ -1,6 +1,6 @@
 -- Lists that are made by number.
 use Rattle.std.proofs.Common.{◌≡◌, ℕ, zero, suc, ◌+◌, ◌*◌, ◌/◌, ◌%◌, ◌<◌, List, [], ◌∷◌, map, length, get_or, sym, refl, ap, ◌∙◌, subst, add-zero, zero-add, arith}
-use Rattle.std.specs.List.{range_with_len, flat_map, AllByRecursion as All}
+use Rattle.std.specs.List.{range_with_len, flat_map, AllByRecursion}
 use Rattle.std.proofs.lemmas.Nat.{mul-add-lt, div-mul-add, mod-mul-add}
 use Rattle.std.proofs.lemmas.List.FromFn.{get_or-map-range_with_len}
 
@@ -35,7 +35,7 @@ module _ {X : Type 0} (f g : ℕ → X) where
       let same : a + 1 + i ≡ a + suc i = omega arith in
       rw at (second_of_twos (a + 1) n i e (omega arith) ∙ ap g same)
 
-  pub all_twos : (P : X → Type 0) (a n : ℕ) → ((i : ℕ) → i < n → P (f (a + i)) × P (g (a + i))) → All P (flat_map both (range_with_len a n))
+  pub all_twos : (P : X → Type 0) (a n : ℕ) → ((i : ℕ) → i < n → P (f (a + i)) × P (g (a + i))) → AllByRecursion P (flat_map both (range_with_len a n))
   all_twos P a zero each = tt
   all_twos P a (suc n) each =
       let here = rw add-zero at (each 0 (omega arith)) in

@@ -1,6 +1,6 @@
 -- A shifted pair keeps the rules of memory.
 use Rattle.std.proofs.Common.{◌≡◌, ℕ, ◌+◌, ◌-◌, ◌*◌, ◌<◌, ◌≤◌, true, not, ◌||◌, eqb, ltb, List, ℤ, pos, neg_ℤ, sym, refl, ap, ◌∙◌, subst, ⊎_elim, zero-add, arith, pow_pos}
-use Rattle.std.specs.List.{range_with_len, flat_map, AllByRecursion as All}
+use Rattle.std.specs.List.{range_with_len, flat_map, AllByRecursion}
 use Rattle.std.proofs.lemmas.List.FromFn.{length-map-range_with_len}
 use Rattle.std.proofs.ByRecursion.{All-get_or, All-from_get_or, All-append}
 use Rattle.std.proofs.lemmas.Bool.{and_parts, and_from, ltb-true, lt-ltb, ne_eqb, cases_lt, or_left, not_from_false}
@@ -48,13 +48,13 @@ module _ (p : Plan) (ts : List Moment) (d : ℕ) (placed : Placed p) (bounded : 
   abbrev KeptLimit : Limit Moment → Type 0
   KeptLimit l = (fits (shifted_plan p d) l ≡ true) × (bound_rule l.bound ≡ true)
 
-  old_kept : All KeptLimit p.limits
+  old_kept : AllByRecursion KeptLimit p.limits
   old_kept =
       All-from_get_or KeptLimit p.limits _ (λ j h.
       let kept = memory.limits.each j h in
       (rw (rows_same p d) (wider p.points (points_size p) (rows p) (limit_at p j) (omega arith) kept.fitting), kept.bounded))
 
-  new_kept : All KeptLimit (flat_map (new_limits p d) (range_with_len 0 (letters p)))
+  new_kept : AllByRecursion KeptLimit (flat_map (new_limits p d) (range_with_len 0 (letters p)))
   new_kept =
       all_twos (there p d) (back p d) KeptLimit 0 (letters p) (λ i h. rw zero-add (
       let old : test p i < points_size p = omega (arith, placed i h) in

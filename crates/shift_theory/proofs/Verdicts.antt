@@ -1,6 +1,6 @@
 -- A table under a delay and the shifted table without one are viable and dynamic together.
 use Rattle.std.proofs.Common.{◌≡◌, ℕ, ◌<◌, ◌≤◌, true, ◌↔◌, List, length, sym, refl, ap, ◌∙◌, subst, zero-add, arith}
-use Rattle.std.specs.List.{range_with_len, flat_map, AllByRecursion as All}
+use Rattle.std.specs.List.{range_with_len, flat_map, AllByRecursion}
 use Rattle.std.proofs.ByRecursion.{All-get_or, All-from_get_or, All-append}
 use Rattle.std.proofs.lemmas.List.{length-append, get_or_append_left}
 use Rattle.std.proofs.lemmas.Bool.{and_parts, ltb-true}
@@ -51,7 +51,7 @@ module _ (p : Plan) (ts : List Moment) (d : ℕ) (placed : Placed p) (bounded : 
         let points = and_parts _ _ (and_parts _ _ (memory.limits.each j h).fitting).0 in
         rw (old_moment p ts d row l (limit_at p j).from (ltb-true _ _ points.0), old_moment p ts d row l (limit_at p j).to (ltb-true _ _ points.1))
 
-    new_kept : All (Kept p' ts' row) (flat_map (new_limits p d) (range_with_len 0 (letters p)))
+    new_kept : AllByRecursion (Kept p' ts' row) (flat_map (new_limits p d) (range_with_len 0 (letters p)))
     new_kept =
         all_twos (there p d) (back p d) (Kept p' ts' row) 0 (letters p) (λ i h. rw zero-add (
         let o = moment p ts row (test p i) in

@@ -1,19 +1,18 @@
 -- What the answer of a table file says of its fields.
-use Rattle.std.proofs.Common.{◌≡◌, ℕ, ◌+◌, ◌*◌, ◌^◌, ◌<◌, ◌≤◌, Bool, true, false, ltb, ◌⊎◌, List, [], ◌∷◌, ◌++◌, length, sym, refl, ap, ◌∙◌, subst, inl, inr, mul-le-mul, arith}
+use Rattle.std.proofs.Common.{◌≡◌, ℕ, ◌^◌, ◌<◌, ◌≤◌, Bool, true, false, ltb, List, [], ◌∷◌, length, sym, refl, ap, ◌∙◌, subst, inl, inr, mul-le-mul, arith}
 use lib.Pow.{pow-lt}
 use Rattle.std.proofs.lemmas.Bool.{leb-true, le-leb, lt-leb, ltb-true, ltb-false, lt-ltb, le-ltb}
 use Rattle.refusals.specs.Answers.{Answer, given, refused, and_then, unless, refusal_at}
 use Rattle.refusals.specs.declared.Refusal.{Refusal}
-use Rattle.fields.specs.Fields.{Field, number_at, checked, Kept, AllKept, FirstRefused, JudgedFields}
+use Rattle.fields.specs.Fields.{Field, checked, AllKept, FirstRefused, JudgedFields}
 use Rattle.fields.proofs.Chains.{onward, checked_judged}
 use Rattle.times.specs.Coding.{Kind, time_at}
 use Rattle.times.specs.Moments.{Moment}
 use Rattle.refusals.specs.Searches.{when}
 use Rattle.heads.specs.declared.Head.{Head}
-use Rattle.table_files.specs.Layouts.{passing, table_size, time_place, table_length, header_fields, time_fields, end_field, body_fields}
-use Rattle.table_files.specs.Readings.{times_in, counted, header_answer, body_answer, read_table, IsRead, ReadRefused, in_header, no_room, in_body, ReadSays, RefusedExactly, RefusesExactly}
-use Rattle.table_files.proofs.Laid.{yes, kept_left, kept_right, length-laid}
-use Rattle.table_files.proofs.Stepping.{reach}
+use Rattle.table_files.specs.Layouts.{table_size, time_place, table_length, header_fields, time_fields, end_field, body_fields}
+use Rattle.table_files.specs.Readings.{times_in, counted, header_answer, body_answer, read_table, IsRead, ReadRefused, in_header, no_room, in_body, ReadSays, RefusesExactly}
+use Rattle.table_files.proofs.Laid.{yes, kept_right, length-laid}
 
 -- fields that are kept pass
 pub kept_checked : {X : Type 0} (file : List ℕ) (fs : List Field) (x : X) → AllKept file fs → checked file fs x ≡ given x

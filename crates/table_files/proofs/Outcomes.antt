@@ -1,5 +1,5 @@
 -- The answer of a writer, and what it leaves, from the checks that it makes.
-use Rattle.std.proofs.Common.{◌≡◌, ℕ, ◌*◌, ◌^◌, ◌<◌, ◌≤◌, ltb, List, [], ◌∷◌, ◌++◌, length, drop, Some, None, Option, sym, refl, ap, ◌∙◌, subst}
+use Rattle.std.proofs.Common.{◌≡◌, ℕ, ◌*◌, ◌^◌, ◌<◌, ◌≤◌, ltb, List, length, Some, None, Option, sym, refl, ap, ◌∙◌, subst}
 use Rattle.std.proofs.lemmas.Bool.{ltb-true, ltb-false, lt-ltb, le-ltb}
 use Rattle.refusals.specs.Answers.{Answer, given, refused, unless, refusal_at}
 use Rattle.refusals.specs.declared.Refusal.{Refusal}
@@ -10,7 +10,7 @@ use Rattle.heads.specs.declared.Head.{Head}
 use Rattle.heads.proofs.Tests.{length-tests}
 use Rattle.table_files.specs.Layouts.{table_size, table_length}
 use Rattle.table_files.specs.Readings.{room_answer}
-use Rattle.table_files.specs.Writings.{bare, table_bytes, write_table, left_by, written, IsWritten, WriteRefused, in_memory, no_room, WriteSays}
+use Rattle.table_files.specs.Writings.{bare, write_table, left_by, written, in_memory, no_room, WriteSays}
 use Rattle.table_files.proofs.Laid.{yes}
 use Rattle.table_files.proofs.Timed.{never}
 use Rattle.table_files.proofs.Stepping.{refused_when, given_when}

@@ -1,16 +1,16 @@
 -- Times written one after the other.
 use Rattle.std.proofs.Common.{◌≡◌, ℕ, suc, ◌+◌, ◌*◌, ◌<◌, ◌≤◌, List, [], ◌∷◌, ◌++◌, map, length, get_or, take, drop, sym, refl, ap, ◌∙◌, subst, arith}
 use lib.Seq.{paste}
-use Rattle.std.specs.List.{flat_map, AllByRecursion as All}
+use Rattle.std.specs.List.{flat_map, AllByRecursion}
 use Rattle.std.proofs.lemmas.List.Edits.{paste_none, paste-paste, paste_all}
 use Rattle.std.proofs.ByRecursion.{All-push}
-use Rattle.std.proofs.lemmas.List.{map_more, flat_map_more, length-append, length-map, length-take-le, take_all}
-use Rattle.times.specs.Coding.{Kind, whole_kind, fine_kind, width_of, time_at, time_bytes}
+use Rattle.std.proofs.lemmas.List.{map_more, flat_map_more, length-append, length-map, length-take-le}
+use Rattle.times.specs.Coding.{Kind, whole_kind, fine_kind, width_of, time_bytes}
 use Rattle.times.specs.Moments.{Moment}
 use Rattle.heads.specs.declared.Head.{Head}
 use Rattle.table_files.specs.Layouts.{time_place}
 use Rattle.table_files.specs.Writings.{OfKind, header_bytes, table_bytes}
-use Rattle.table_files.proofs.Timed.{width_more, place_in}
+use Rattle.table_files.proofs.Timed.{width_more}
 
 pub length-time_bytes : (kind : Kind) (m : Moment) → length (time_bytes kind m) ≡ width_of kind
 length-time_bytes whole_kind m = refl
@@ -48,8 +48,8 @@ module _ {X : Type 0} (of : X → Moment) (kind : Kind) where
         let twice = paste-paste d 7 (so_far times i) (time_bytes kind (of x)) (width_of kind * i) (width_of kind) len (sym (length-time_bytes kind (of x))) room in
         simp (e, bytes, width_more kind i) twice
 
-    pub coded_more : All (OfKind kind) front → OfKind kind (of x) → All (OfKind kind) (map of (take (i + 1) times))
-    coded_more all here = subst (All (OfKind kind)) (sym more) (All-push (OfKind kind) front (of x) all here)
+    pub coded_more : AllByRecursion (OfKind kind) front → OfKind kind (of x) → AllByRecursion (OfKind kind) (map of (take (i + 1) times))
+    coded_more all here = subst (AllByRecursion (OfKind kind)) (sym more) (All-push (OfKind kind) front (of x) all here)
 
 -- the header and then the times
 pub put_both : (kind : Kind) (head : Head) (ms : List Moment) (n : ℕ) (d file after : List ℕ) → n ≡ length ms → file ≡ paste d 0 (header_bytes kind head) 7 → after ≡ paste file 7 (flat_map (time_bytes kind) ms) (width_of kind * n) → after ≡ table_bytes kind head ms ++ drop (time_place kind n) d

@@ -1,6 +1,6 @@
 -- A file is read with times exactly when it is their file.
-use Rattle.std.proofs.Common.{◌≡◌, ℕ, ◌+◌, ◌*◌, ◌^◌, ◌<◌, ◌≤◌, true, List, [], ◌∷◌, ◌++◌, length, get_or, take, drop, sym, refl, ap, ◌∙◌, subst, mul_comm, arith}
-use Rattle.std.specs.List.{flat_map, AllByRecursion as All}
+use Rattle.std.proofs.Common.{◌≡◌, ℕ, ◌+◌, ◌*◌, ◌^◌, ◌<◌, ◌≤◌, List, [], ◌∷◌, ◌++◌, length, get_or, take, drop, sym, refl, ap, ◌∙◌, subst, mul_comm, arith}
+use Rattle.std.specs.List.{flat_map, AllByRecursion}
 use Rattle.std.proofs.lemmas.Nat.{mul-add-lt}
 use Rattle.std.proofs.ByRecursion.{All-from_get_or}
 use Rattle.std.proofs.lemmas.List.{same_lists, take_all, take_at, length-drop}
@@ -14,10 +14,10 @@ use Rattle.plans.specs.Plans.{origin}
 use Rattle.heads.specs.declared.Head.{Head}
 use Rattle.plans.proofs.Memories.{none_from_times}
 use Rattle.heads.proofs.Tests.{length-tests}
-use Rattle.table_files.specs.Layouts.{laid, table_size, time_place, table_length, header_fields, table_time, row_fields, time_fields, end_field, body_fields}
+use Rattle.table_files.specs.Layouts.{table_size, time_place, table_length, header_fields, table_time, row_fields, time_fields, end_field, body_fields}
 use Rattle.table_files.specs.Readings.{times_in, counted, read_table, IsRead}
-use Rattle.table_files.specs.Writings.{bare, OfKind, header_bytes, table_bytes, write_table, written}
-use Rattle.table_files.specs.Trips.{IsTable, IsFileOf, Exactly, Rewritten, ReadExactly, WritesBack, Checked, Ready}
+use Rattle.table_files.specs.Writings.{bare, OfKind, header_bytes, table_bytes}
+use Rattle.table_files.specs.Trips.{IsTable, IsFileOf, Rewritten, ReadExactly, WritesBack, Checked, Ready}
 use Rattle.table_files.proofs.Laid.{yes, length-laid, get_or-laid, kept_left, kept_both, kept_at, kept_each}
 use Rattle.table_files.proofs.Timed.{place_in}
 use Rattle.table_files.proofs.Judging.{size_small, read_says, read_is, exact_length, refuses_exactly}
@@ -52,7 +52,7 @@ module _ (kind : Kind) (head : Head) (file : List ℕ) where
         ap (allowed x) same ∙ time.0.kept;
   }
 
-  all_of_kind : Bytes file → table_length kind head ≤ length file → All (OfKind kind) read_times
+  all_of_kind : Bytes file → table_length kind head ≤ length file → AllByRecursion (OfKind kind) read_times
   all_of_kind small room =
       All-from_get_or (OfKind kind) read_times origin (λ i h.
       let long = length-laid at (table_size head) in

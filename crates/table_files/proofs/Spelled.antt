@@ -1,21 +1,21 @@
 -- A time at a place and its bytes.
-use Rattle.std.proofs.Common.{◌≡◌, ℕ, zero, suc, ◌+◌, ◌*◌, ◌<◌, ◌≤◌, List, [], ◌∷◌, ◌++◌, length, get_or, take, drop, ℤ, sym, refl, ap, ◌∙◌, subst, arith, w32, to_z}
-use Rattle.std.specs.List.{flat_map, AllByRecursion as All}
+use Rattle.std.proofs.Common.{◌≡◌, ℕ, zero, suc, ◌+◌, ◌*◌, ◌<◌, ◌≤◌, List, [], ◌∷◌, ◌++◌, length, get_or, take, drop, ℤ, sym, refl, ap, ◌∙◌, arith, w32, to_z}
+use Rattle.std.specs.List.{flat_map, AllByRecursion}
 use Rattle.std.proofs.ByRecursion.{All-from_get_or}
 use Rattle.std.proofs.lemmas.List.{get_or_append_left, get_or-drop, get_or-take, drop-drop, drop_at, drop-take, take-take, take-append-drop, flat_map_more}
 use Rattle.times.specs.Coding.{Kind, whole_kind, fine_kind, Recoded, width_of, word_at, signed_at, time_at, time_bytes}
 use Rattle.times.specs.Moments.{Moment, whole}
 use Rattle.times.proofs.Words.{again, again_twice}
-use Rattle.table_files.specs.Layouts.{laid, time_place}
+use Rattle.table_files.specs.Layouts.{time_place}
 use Rattle.table_files.specs.Readings.{times_in}
 use Rattle.table_files.specs.Writings.{OfKind}
-use Rattle.table_files.proofs.Timed.{width_more, place_in}
+use Rattle.table_files.proofs.Timed.{width_more}
 use Rattle.table_files.proofs.Putting.{length-time_bytes}
 
 abbrev pub Bytes : List ℕ → Type 0
 Bytes file = (i : ℕ) → get_or file i 0 < 256
 
-pub all_bytes : (file : List ℕ) → Bytes file → All (λ b. b < 256) file
+pub all_bytes : (file : List ℕ) → Bytes file → AllByRecursion (λ b. b < 256) file
 all_bytes file small = All-from_get_or (λ b. b < 256) file 0 (λ i h. small i)
 
 recoded : (kind : Kind) → Recoded kind
@@ -56,7 +56,7 @@ module _ (kind : Kind) (file : List ℕ) where
       let long = length-time_bytes kind m in
       sym (time_same kind (time_bytes kind m) file at (λ j h. sym (get_or_append_left (time_bytes kind m) rest 0 j (omega arith)) ∙ ap (λ l. get_or l j 0) (sym e) ∙ get_or-drop at file j 0)) ∙ of
 
-  pub times_there : (ts : List Moment) (at i : ℕ) (d : Moment) → drop at file ≡ flat_map (time_bytes kind) ts → All (OfKind kind) ts → i < length ts → time_at kind file (at + width_of kind * i) ≡ get_or ts i d
+  pub times_there : (ts : List Moment) (at i : ℕ) (d : Moment) → drop at file ≡ flat_map (time_bytes kind) ts → AllByRecursion (OfKind kind) ts → i < length ts → time_at kind file (at + width_of kind * i) ≡ get_or ts i d
   times_there [] at i d e all h = absurd (omega arith)
   times_there (m ∷ ms) at zero d e all h =
       let here : at + width_of kind * 0 ≡ at = omega arith in

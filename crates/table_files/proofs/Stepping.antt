@@ -1,16 +1,15 @@
 -- The answer of a whole table file from those of its parts.
-use Rattle.std.proofs.Common.{◌≡◌, ℕ, zero, suc, ◌+◌, ◌-◌, ◌*◌, ◌^◌, ◌<◌, ◌≤◌, Bool, true, false, ltb, leb, List, [], ◌∷◌, ◌++◌, length, sym, refl, ap, ◌∙◌, subst, suc-mul, arith, pow_pos}
+use Rattle.std.proofs.Common.{◌≡◌, ℕ, zero, suc, ◌+◌, ◌-◌, ◌*◌, ◌^◌, ◌<◌, ◌≤◌, Bool, true, false, ltb, leb, List, [], ◌∷◌, length, sym, refl, ap, ◌∙◌, subst, suc-mul, arith, pow_pos}
 use Rattle.std.proofs.lemmas.Bool.{le-leb, lt-leb, ltb-true, ltb-false}
 use Rattle.refusals.specs.Answers.{Answer, given, refused, and_then, unless, refusal_at}
 use Rattle.refusals.specs.declared.Refusal.{Refusal}
 use Rattle.fields.specs.Fields.{Field, checked, AllKept}
 use Rattle.fields.proofs.Chains.{onward, halted, judged}
 use Rattle.times.specs.Coding.{Kind, width_of}
-use Rattle.times.specs.Moments.{Moment}
 use Rattle.refusals.specs.Searches.{when}
 use Rattle.heads.specs.declared.Head.{Head}
-use Rattle.table_files.specs.Layouts.{passing, table_size, time_place, table_length, header_fields, table_time, row_fields, time_fields, end_field, body_fields}
-use Rattle.table_files.specs.Readings.{times_in, counted, room_answer, end_answer, header_answer, body_answer, read_table}
+use Rattle.table_files.specs.Layouts.{passing, table_size, time_place, table_length, header_fields, table_time, row_fields, time_fields, end_field}
+use Rattle.table_files.specs.Readings.{times_in, counted, room_answer, end_answer, body_answer, read_table}
 use Rattle.table_files.proofs.Laid.{yes, kept_at, length-laid}
 use Rattle.table_files.proofs.Timed.{never, width_more}
 

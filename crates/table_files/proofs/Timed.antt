@@ -1,18 +1,17 @@
 -- One time of a table file, and times that are stored one by one.
-use Rattle.std.proofs.Common.{◌≡◌, ℕ, ◌+◌, ◌*◌, ◌<◌, ◌≤◌, Bool, true, false, cond, not, leb, List, [], ◌∷◌, ◌++◌, map, length, take, drop, set, sym, refl, ap, ◌∙◌, subst, arith}
+use Rattle.std.proofs.Common.{◌≡◌, ℕ, ◌+◌, ◌*◌, ◌<◌, ◌≤◌, Bool, true, false, cond, not, leb, List, [], ◌∷◌, map, length, take, drop, set, sym, refl, ap, ◌∙◌, subst, arith}
 use Rattle.std.proofs.lemmas.List.{take_more_set, map_push, drop-set-lt}
 use Rattle.std.proofs.lemmas.Bool.{le-leb}
 use Rattle.refusals.specs.Answers.{Answer, given, refused, and_then, unless, refusal_at}
 use Rattle.refusals.specs.declared.Refusal.{Refusal}
-use Rattle.fields.specs.Fields.{checked}
 use Rattle.times.specs.Coding.{Kind, whole_kind, fine_kind, width_of, time_at, time_field}
 use Rattle.times.specs.Moments.{Moment}
 use Rattle.plans.specs.Memory.{allowed}
 use Rattle.refusals.specs.Searches.{when}
 use Rattle.heads.specs.declared.Head.{Head}
-use Rattle.table_files.specs.Layouts.{laid, passing, time_place, table_time}
+use Rattle.table_files.specs.Layouts.{passing, time_place, table_time}
 use Rattle.table_files.specs.Readings.{times_in}
-use Rattle.table_files.proofs.Laid.{yes, laid_more}
+use Rattle.table_files.proofs.Laid.{laid_more}
 
 pub never : {X Z : Type 0} (r : Refusal) (x : X) → refused r ≡ given x → Z
 never r x e = let z : ◌≡◌ {A = ℕ} 0 1 = cc in absurd (omega arith)

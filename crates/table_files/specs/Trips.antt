@@ -1,6 +1,6 @@
 -- Table files and tables determine each other.
 use Rattle.std.specs.Prelude.{◌≡◌, ℕ, ◌^◌, ◌<◌, ◌≤◌, List, ◌++◌, length, take, drop}
-use Rattle.std.specs.List.{AllByRecursion as All}
+use Rattle.std.specs.List.{AllByRecursion}
 use Rattle.refusals.specs.Answers.{Answer, given, refused}
 use Rattle.times.specs.Coding.{Kind}
 use Rattle.times.specs.Moments.{Moment}
@@ -13,7 +13,7 @@ use Rattle.table_files.specs.Writings.{bare, OfKind, table_bytes, write_table, w
 -- times that keep the rules of a table, and that the kind can hold
 pub record IsTable (kind : Kind) (head : Head) (ts : List Moment) : Type 0 where
   pub kept : TimesKept (bare head) ts
-  pub of_kind : All (OfKind kind) ts
+  pub of_kind : AllByRecursion (OfKind kind) ts
 
 pub record IsFileOf (kind : Kind) (head : Head) (room : ℕ) (ts : List Moment) (file : List ℕ) : Type 0 where
   pub bytes : file ≡ table_bytes kind head ts

@@ -1,7 +1,7 @@
 // Writing a table file: all is checked before a byte is written.
 ghost use Rattle.std.specs.Prelude.{◌≡◌, ◌+◌, ◌*◌, ◌^◌, ◌<◌, ◌≤◌, map, length};
 ghost use Rattle.std.proofs.Math.Seq.{paste};
-ghost use Rattle.std.specs.List.{flat_map, AllByRecursion as All};
+ghost use Rattle.std.specs.List.{flat_map, AllByRecursion};
 ghost use Rattle.refusals.specs.Answers.{answer_of, unless};
 ghost use Rattle.times.specs.Coding.{time_bytes, width_of};
 ghost use Rattle.plans.specs.Faults.{memory_fault};
@@ -69,7 +69,7 @@ fn put_header<T: Time>(head: &Head, file: &mut [u8])
 fn put_times<T: Time>(times: &[T], file: &mut [u8])
     requires { (length times.now < 2 ^ 32) × (time_place T.Time.kind (length times.now) ≤ length file.old) }
     ensures bytes { file.new ≡ paste file.old 7 (flat_map (time_bytes T.Time.kind) (map T.Time.moment times.now)) (width_of T.Time.kind * length times.now) }
-    ensures coded { All (OfKind T.Time.kind) (map T.Time.moment times.now) }
+    ensures coded { AllByRecursion (OfKind T.Time.kind) (map T.Time.moment times.now) }
 {
     for i in 0..times.len() {
         put_time(times[i], time_place::<T>(i), file);

@@ -1,6 +1,6 @@
 -- A time at a place and its bytes.
-use Rattle.std.proofs.Common.{◌≡◌, ℕ, ◌+◌, ◌*◌, ◌<◌, ◌≤◌, List, [], ◌∷◌, ◌++◌, length, get_or, take, drop, ℤ, sym, refl, ap, ◌∙◌, subst, arith, w32, to_z}
-use Rattle.std.specs.List.{AllByRecursion as All}
+use Rattle.std.proofs.Common.{◌≡◌, ℕ, ◌+◌, ◌<◌, ◌≤◌, List, ◌++◌, length, get_or, take, drop, ℤ, sym, ap, ◌∙◌, arith, w32, to_z}
+use Rattle.std.specs.List.{AllByRecursion}
 use Rattle.std.proofs.ByRecursion.{All-from_get_or}
 use Rattle.std.proofs.lemmas.List.{get_or_append_left, get_or-drop, get_or-take}
 use Rattle.times.specs.Coding.{Kind, whole_kind, fine_kind, Recoded, width_of, word_at, signed_at, time_at, time_bytes}
@@ -12,7 +12,7 @@ use Rattle.time_fields.proofs.Widths.{length-time_bytes}
 abbrev pub Bytes : List ℕ → Type 0
 Bytes file = (i : ℕ) → get_or file i 0 < 256
 
-pub all_bytes : (file : List ℕ) → Bytes file → All (λ b. b < 256) file
+pub all_bytes : (file : List ℕ) → Bytes file → AllByRecursion (λ b. b < 256) file
 all_bytes file small = All-from_get_or (λ b. b < 256) file 0 (λ i h. small i)
 
 pub recoded : (kind : Kind) → Recoded kind

@@ -1,5 +1,5 @@
 -- How many bytes times take.
-use Rattle.std.proofs.Common.{◌≡◌, ℕ, ◌+◌, ◌*◌, ◌<◌, ◌≤◌, length, refl, arith}
+use Rattle.std.proofs.Common.{◌≡◌, ℕ, ◌+◌, ◌*◌, ◌≤◌, length, refl, arith}
 use Rattle.times.specs.Coding.{Kind, whole_kind, fine_kind, width_of, time_bytes}
 use Rattle.times.specs.Moments.{Moment}
 

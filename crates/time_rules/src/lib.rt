@@ -1,5 +1,7 @@
 // What is asked of times of any kind, answered by the pair of ticks and grains in their bytes: the rules of bounds
 // and of table times, and which times are at zero, are the same or have no grains. A change of such a rule is made here.
+#![tactic(auto)]
+
 ghost use Rattle.std.specs.Prelude.{◌≡◌, Decides};
 ghost use Rattle.times.specs.Moments.{bound_rule, is_zero, moment_of, same_moment, table_rule, whole};
 

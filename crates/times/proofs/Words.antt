@@ -1,6 +1,6 @@
 -- Four bytes and the number that they say.
-use Rattle.std.proofs.Common.{◌≡◌, ℕ, suc, ◌+◌, ◌*◌, ◌/◌, ◌%◌, ◌^◌, ◌<◌, ◌≤◌, List, [], ◌∷◌, ◌++◌, length, get_or, take, drop, sym, refl, ap, ◌∙◌, arith, take-append-drop, drop-cons, take-take, drop-drop, w32, to_z, of_z}
-use Rattle.std.specs.List.{AllByRecursion as All}
+use Rattle.std.proofs.Common.{◌≡◌, ℕ, suc, ◌+◌, ◌*◌, ◌<◌, ◌≤◌, List, [], ◌∷◌, ◌++◌, length, get_or, take, drop, sym, refl, ap, ◌∙◌, arith, take-append-drop, drop-cons, take-take, drop-drop, w32, of_z}
+use Rattle.std.specs.List.{AllByRecursion}
 use Rattle.std.proofs.ByRecursion.{All-get_or}
 use Rattle.std.proofs.lemmas.List.{drop-take}
 use Rattle.std.proofs.lemmas.Int.{of_z-to_z}
@@ -25,7 +25,7 @@ four bytes at h =
     (list4 refl (ap (λ k. get_or bytes k 0) p) (ap (λ k. get_or bytes k 0) q) (ap (λ k. get_or bytes k 0) r))
 
 -- the four bytes at a place, read and written again
-pub again : (bytes : List ℕ) (at : ℕ) → All (λ b. b < 256) bytes → at + 4 ≤ length bytes → word_bytes (of_z w32 (signed_at bytes at)) ≡ take 4 (drop at bytes)
+pub again : (bytes : List ℕ) (at : ℕ) → AllByRecursion (λ b. b < 256) bytes → at + 4 ≤ length bytes → word_bytes (of_z w32 (signed_at bytes at)) ≡ take 4 (drop at bytes)
 again bytes at small room =
     let a = All-get_or (λ b. b < 256) bytes at 0 (omega arith) small in
     let b = All-get_or (λ b. b < 256) bytes (at + 1) 0 (omega arith) small in
@@ -45,7 +45,7 @@ eight bytes at =
 both : {a b c d : List ℕ} → a ≡ c → b ≡ d → a ++ b ≡ c ++ d
 both p q = cc
 
-pub again_twice : (bytes : List ℕ) (at : ℕ) → All (λ b. b < 256) bytes → at + 8 ≤ length bytes → word_bytes (of_z w32 (signed_at bytes at)) ++ word_bytes (of_z w32 (signed_at bytes (at + 4))) ≡ take 8 (drop at bytes)
+pub again_twice : (bytes : List ℕ) (at : ℕ) → AllByRecursion (λ b. b < 256) bytes → at + 8 ≤ length bytes → word_bytes (of_z w32 (signed_at bytes at)) ++ word_bytes (of_z w32 (signed_at bytes (at + 4))) ≡ take 8 (drop at bytes)
 again_twice bytes at small room =
     let low = again bytes at small (omega arith) in
     let high = again bytes (at + 4) small (omega arith) in

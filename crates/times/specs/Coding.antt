@@ -2,7 +2,7 @@
 use Rattle.std.specs.Prelude.{◌≡◌, ℕ, ◌+◌, ◌*◌, ◌/◌, ◌%◌, ◌<◌, ◌≤◌, cond, List, [], ◌∷◌, ◌++◌, length, take, drop, ℤ, nat_le, slice_index}
 use Rattle.std.specs.Int.{w32}
 use Rattle.std.proofs.Common.{to_z, of_z}
-use Rattle.std.specs.List.{AllByRecursion as All}
+use Rattle.std.specs.List.{AllByRecursion}
 use Rattle.refusals.specs.Answers.{Answer, given, refused, refusal_at}
 use Rattle.refusals.specs.declared.Refusal.{Refusal}
 use Rattle.times.specs.Moments.{Moment, whole}
@@ -52,7 +52,7 @@ coded_bytes (Eight bytes) = bytes
 
 -- a time that is decoded and coded again is the bytes that it was decoded from
 abbrev pub Recoded : Kind → Type 0
-Recoded kind = (bytes : List ℕ) (at : ℕ) → All (λ b. b < 256) bytes → at + width_of kind ≤ length bytes → time_bytes kind (time_at kind bytes at) ≡ take (width_of kind) (drop at bytes)
+Recoded kind = (bytes : List ℕ) (at : ℕ) → AllByRecursion (λ b. b < 256) bytes → at + width_of kind ≤ length bytes → time_bytes kind (time_at kind bytes at) ≡ take (width_of kind) (drop at bytes)
 
 -- refusal 1: the file ends before the time does, with the file's length; 9: the time breaks its rule, with the place of its first byte
 abbrev pub time_refusal : TimeFault → Refusal

@@ -31,7 +31,8 @@ impl Ticks {
     pub fn after(&self, ticks: i32) -> Option<i32>
         ensures { result ≡ later_ticks ticks self.now.count }
     {
-        let sum = i64::from(ticks) + i64::from(self.count);
+        let Ticks { count, .. } = *self;
+        let sum = i64::from(ticks) + i64::from(count);
         if sum < -1_000_000_000 || sum > 1_000_000_000 {
             return None;
         }

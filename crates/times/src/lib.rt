@@ -1,5 +1,7 @@
 // What a kind of time answers. What a value of a kind stands for is a moment, a pair of integers. A change of
 // what every kind promises is made here; each kind has a crate of its own.
+#![tactic(auto)]
+
 mod bytes;
 mod counts;
 mod faults;

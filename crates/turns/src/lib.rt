@@ -1,6 +1,8 @@
 // Which row is played, which of its steps comes next, and which outcome a step waits for. A change of one of these
 // rules of a release is made here. Points and letters come as sets of bits: the points released, the letters whose
 // token is out, the letters told, and of those the ones told true.
+#![tactic(auto)]
+
 ghost use Rattle.std.specs.Prelude.{◌≡◌};
 ghost use Rattle.std.specs.Option.{option_map};
 ghost use Rattle.refusals.specs.Answers.{refusal_at};

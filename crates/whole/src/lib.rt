@@ -1,4 +1,6 @@
 // The kind of time that has whole ticks alone. A change of how whole times are kept or coded is made here.
+#![tactic(auto)]
+
 ghost use Rattle.std.specs.Prelude.{◌≡◌};
 ghost use Rattle.times.specs.Coding.{whole_kind};
 ghost use Rattle.times.specs.Moments.{whole};

@@ -1,5 +1,7 @@
 // The program: reads plan.dpn and table.run from the folder it is started in, and prints one line
 // on the pair. What the line says is decided in the crate judge; here files are only read.
+#![tactic(auto)]
+
 use anyhow::anyhow;
 use judge::interim::write_headers_line;
 use std::io::{ErrorKind, Read, Write};

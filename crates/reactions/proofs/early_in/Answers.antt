@@ -8,7 +8,7 @@ use Rattle.reactions.proofs.early_in.Goals as goal
 pub loop-b-preserved : goal.loop-b-preserved
 loop-b-preserved g c =
     let pair = c.args.pair.now in
-    (first_passes (early_between (plan_in g.T.Time.moment pair) (table_in g.T.Time.moment pair) (g.R.Rule.sees c.args.rule.now) c.args.a) c.loop-b.b c.loop-b.invariant.0 c.in-default.ensures, omega arith)
+    (first_passes (early_between (plan_in g.T.Time.moment pair) (table_in g.T.Time.moment pair) (g.R.Rule.sees c.args.rule.now) c.args.a) c.loop-b.b c.loop-b.invariant.0 c.in_default.ensures, omega arith)
 
 pub returns-in-Some : goal.returns-in-Some
 returns-in-Some g c =

@@ -8,7 +8,7 @@ use Rattle.reactions.proofs.find_early.Goals as goal
 pub loop-a-preserved : goal.loop-a-preserved
 loop-a-preserved g c =
     let pair = c.args.pair.now in
-    (first_passes (early_in (plan_in g.T.Time.moment pair) (table_in g.T.Time.moment pair) (g.R.Rule.sees c.args.rule.now)) c.loop-a.a c.loop-a.invariant.0 c.in-default.ensures, omega arith)
+    (first_passes (early_in (plan_in g.T.Time.moment pair) (table_in g.T.Time.moment pair) (g.R.Rule.sees c.args.rule.now)) c.loop-a.a c.loop-a.invariant.0 c.in_default.ensures, omega arith)
 
 pub returns-in-Some : goal.returns-in-Some
 returns-in-Some g c =

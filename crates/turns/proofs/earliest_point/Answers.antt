@@ -5,12 +5,12 @@ use Rattle.turns.specs.Turns.{leads}
 use Rattle.turns.proofs.earliest_point.Goals as goal
 
 pub loop-point-preserved : goal.loop-point-preserved
-loop-point-preserved g c = test_more (leads (plan_in g.T.Time.moment c.args.pair.now) (table_in g.T.Time.moment c.args.pair.now) c.args.released c.args.row) (λ i. i) c.loop-point.point c.loop-point.invariant c.if-is-leading.ensures
+loop-point-preserved g c = test_more (leads (plan_in g.T.Time.moment c.args.pair.now) (table_in g.T.Time.moment c.args.pair.now) c.args.released c.args.row) (λ i. i) c.loop-point.point c.loop-point.invariant c.if-is_leading.ensures
 
-pub returns-then-is-leading : goal.returns-then-is-leading
-returns-then-is-leading g c =
+pub returns-then-is_leading : goal.returns-then-is_leading
+returns-then-is_leading g c =
     let pair = c.args.pair.now in
-    test_stops (leads (plan_in g.T.Time.moment c.args.pair.now) (table_in g.T.Time.moment c.args.pair.now) c.args.released c.args.row) (λ i. i) _ _ c.loop-point.point c.points-point-end.ensures c.loop-point-test.true c.loop-point.invariant c.if-is-leading.ensures
+    test_stops (leads (plan_in g.T.Time.moment c.args.pair.now) (table_in g.T.Time.moment c.args.pair.now) c.args.released c.args.row) (λ i. i) _ _ c.loop-point.point c.points-point-end.ensures c.loop-point-test.true c.loop-point.invariant c.if-is_leading.ensures
 
 pub returns : goal.returns
 returns g c =

@@ -7,12 +7,12 @@ use Rattle.turns.specs.Turns.{agrees}
 use Rattle.turns.proofs.lowest_row.Goals as goal
 
 pub loop-row-preserved : goal.loop-row-preserved
-loop-row-preserved g c = test_more (agrees (plan_in g.T.Time.moment c.args.pair.now) c.args.told c.args.outcomes) (λ i. i) c.loop-row.row c.loop-row.invariant c.if-is-agreeing.ensures
+loop-row-preserved g c = test_more (agrees (plan_in g.T.Time.moment c.args.pair.now) c.args.told c.args.outcomes) (λ i. i) c.loop-row.row c.loop-row.invariant c.if-is_agreeing.ensures
 
-pub returns-then-is-agreeing : goal.returns-then-is-agreeing
-returns-then-is-agreeing g c =
+pub returns-then-is_agreeing : goal.returns-then-is_agreeing
+returns-then-is_agreeing g c =
     let pair = c.args.pair.now in
-    test_stops (agrees (plan_in g.T.Time.moment c.args.pair.now) c.args.told c.args.outcomes) (λ i. i) _ _ c.loop-row.row (c.rows-row-end.ensures ∙ rows_of g.T.Time.moment pair.head.now pair.limits.now) c.loop-row-test.true c.loop-row.invariant c.if-is-agreeing.ensures
+    test_stops (agrees (plan_in g.T.Time.moment c.args.pair.now) c.args.told c.args.outcomes) (λ i. i) _ _ c.loop-row.row (c.rows-row-end.ensures ∙ rows_of g.T.Time.moment pair.head.now pair.limits.now) c.loop-row-test.true c.loop-row.invariant c.if-is_agreeing.ensures
 
 pub returns : goal.returns
 returns g c =

@@ -1,6 +1,6 @@
-use Rattle.std.proofs.Common.{◌≡◌, None, sym, refl, ap, ◌∙◌}
-use Rattle.refusals.specs.Answers.{Answer, given, unless}
-use Rattle.heads.specs.Heads.{Outline, IsHead, outline, head_refusal}
+use Rattle.std.proofs.Common.{sym, ap, ◌∙◌}
+use Rattle.refusals.specs.Answers.{given, unless}
+use Rattle.heads.specs.Heads.{IsHead, outline}
 use Rattle.heads.proofs.Outlines.{is_head, head_says, padded_started, padded_placed, padded_apart, padded_blank, padded_tests}
 use Rattle.heads.proofs.Head.new.Goals as goal
 
@@ -10,20 +10,29 @@ returns-in-Some c =
     let e = ap (λ a. unless a o) c.in-Some.ensures in
     record { answer = e; says = head_says o _ e }
 
-pub invariant-of-result : goal.invariant-of-result
-invariant-of-result c =
+pub invariant_of-result : goal.invariant_of-result
+invariant_of-result c =
     let o = outline c.args.points c.args.tests.now c.args.round c.args.delay in
-    let h : IsHead o = is_head o (sym c.in-default.ensures) in
+    let h : IsHead o = is_head o (sym c.in_default.ensures) in
     let six = c.padded.result in
-    let same = c.padded.ensures.same in (
-      c.padded.ensures.six,
-      (h.counts.some, (h.counts.few, (h.counts.lettered, (padded_started o six same h, (padded_placed o six same h, (padded_apart o six same h, (padded_blank o six same h, (h.figures.rounded, (h.figures.delayed, tt))))))))),
-    )
+    let same = c.padded.ensures.same in
+    record {
+      six = c.padded.ensures.six;
+      some = h.counts.some;
+      few = h.counts.few;
+      lettered = h.counts.lettered;
+      started = padded_started o six same h;
+      placed = padded_placed o six same h;
+      apart = padded_apart o six same h;
+      blank = padded_blank o six same h;
+      rounded = h.figures.rounded;
+      delayed = h.figures.delayed;
+    }
 
 pub returns : goal.returns
 returns c =
     let o = outline c.args.points c.args.tests.now c.args.round c.args.delay in
-    let h : IsHead o = is_head o (sym c.in-default.ensures) in
+    let h : IsHead o = is_head o (sym c.in_default.ensures) in
     let tests = padded_tests o c.padded.result c.padded.ensures.same h c.padded.ensures.six in
-    let e = ap (λ ts. given (outline c.args.points ts c.args.round c.args.delay)) tests ∙ ap (λ a. unless a o) c.in-default.ensures in
+    let e = ap (λ ts. given (outline c.args.points ts c.args.round c.args.delay)) tests ∙ ap (λ a. unless a o) c.in_default.ensures in
     record { answer = e; says = head_says o _ e }

@@ -1,4 +1,4 @@
-use Rattle.std.proofs.Common.{◌≡◌, ℕ, Bool, true, false, not, eqb, get_or, refl, arith}
+use Rattle.std.proofs.Common.{◌≡◌, ℕ, true, false, not, eqb, refl, arith}
 use Rattle.std.proofs.lemmas.Bool.Decides.{nat_tests}
 use Rattle.refusals.proofs.Firsts.{every_more, every_stops, every_ends}
 use Rattle.heads.proofs.makers.is_new.Goals as goal

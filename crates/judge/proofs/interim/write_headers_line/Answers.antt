@@ -6,9 +6,9 @@ use Rattle.judge.proofs.interim.write_headers_line.Goals as goal
 
 pub returns : goal.returns
 returns c =
-    let n = c.put-answer-length.result in
-    let line = c.put-answer-length.new.line in
+    let n = c.put_answer-length.result in
+    let line = c.put_answer-length.new.line in
     let out = c.args.out.now in
     let from_zero : n - 0 ≡ n = omega arith in
-    let same : take (n - 0) line ≡ line_of (headers_agreement c.args.plan.now c.args.table.now) = ap (λ n. take n line) from_zero ∙ c.put-answer-length.ensures.text ∙ ap line_of c.judge-headers.ensures.answer in
-    record { answer = c.copy-line.ensures.answer ∙ ap (λ l. room_answer l out) same; after = c.copy-line.ensures.after ∙ ap (λ l. with_line l out) same; within = c.copy-line.ensures.within; decimals = read_back }
+    let same : take (n - 0) line ≡ line_of (headers_agreement c.args.plan.now c.args.table.now) = ap (λ n. take n line) from_zero ∙ c.put_answer-length.ensures.text ∙ ap line_of c.judge_headers.ensures.answer in
+    record { answer = c.copy_line.ensures.answer ∙ ap (λ l. room_answer l out) same; after = c.copy_line.ensures.after ∙ ap (λ l. with_line l out) same; within = c.copy_line.ensures.within; decimals = read_back }

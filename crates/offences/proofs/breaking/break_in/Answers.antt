@@ -1,4 +1,4 @@
-use Rattle.std.proofs.Common.{sym, refl, ◌∙◌, arith}
+use Rattle.std.proofs.Common.{arith}
 use Rattle.plans.specs.Lent.{plan_in, table_in}
 use Rattle.refusals.proofs.Firsts.{test_more, test_stops, first_ends}
 use Rattle.plans.proofs.Views.{limits_of}
@@ -8,12 +8,12 @@ use Rattle.offences.proofs.breaking.break_in.Goals as goal
 
 pub loop-j-preserved : goal.loop-j-preserved
 loop-j-preserved g c =
-    (test_more (breaks (plan_in g.T.Time.moment c.args.pair.now) (table_in g.T.Time.moment c.args.pair.now) c.args.row) (limit_offence c.args.row) c.loop-j.j c.loop-j.invariant.0 c.if-is-broken.ensures, omega arith)
+    (test_more (breaks (plan_in g.T.Time.moment c.args.pair.now) (table_in g.T.Time.moment c.args.pair.now) c.args.row) (limit_offence c.args.row) c.loop-j.j c.loop-j.invariant.0 c.if-is_broken.ensures, omega arith)
 
-pub returns-then-is-broken : goal.returns-then-is-broken
-returns-then-is-broken g c =
+pub returns-then-is_broken : goal.returns-then-is_broken
+returns-then-is_broken g c =
     let pair = c.args.pair.now in
-    test_stops (breaks (plan_in g.T.Time.moment c.args.pair.now) (table_in g.T.Time.moment c.args.pair.now) c.args.row) (limit_offence c.args.row) _ _ c.loop-j.j (limits_of g.T.Time.moment pair.head.now pair.limits.now) c.loop-j-test.true c.loop-j.invariant.0 c.if-is-broken.ensures
+    test_stops (breaks (plan_in g.T.Time.moment c.args.pair.now) (table_in g.T.Time.moment c.args.pair.now) c.args.row) (limit_offence c.args.row) _ _ c.loop-j.j (limits_of g.T.Time.moment pair.head.now pair.limits.now) c.loop-j-test.true c.loop-j.invariant.0 c.if-is_broken.ensures
 
 pub returns : goal.returns
 returns g c =

@@ -8,7 +8,7 @@ use Rattle.offences.proofs.breaking.find_break.Goals as goal
 pub loop-row-preserved : goal.loop-row-preserved
 loop-row-preserved g c =
     let pair = c.args.pair.now in
-    (first_passes (break_in (plan_in g.T.Time.moment pair) (table_in g.T.Time.moment pair)) c.loop-row.row c.loop-row.invariant.0 c.in-default.ensures, omega arith)
+    (first_passes (break_in (plan_in g.T.Time.moment pair) (table_in g.T.Time.moment pair)) c.loop-row.row c.loop-row.invariant.0 c.in_default.ensures, omega arith)
 
 pub returns-in-Some : goal.returns-in-Some
 returns-in-Some g c =

@@ -1,6 +1,6 @@
 use Rattle.std.proofs.Common.{◌≡◌, ◌≤◌, None}
 use Rattle.plans.specs.Lent.{plan_in, table_in}
-use Rattle.refusals.specs.Searches.{first, when}
+use Rattle.refusals.specs.Searches.{first}
 use Rattle.offences.specs.Verdicts.{break_in}
 use Rattle.offences.proofs.breaking.find_break.Given as goal
 

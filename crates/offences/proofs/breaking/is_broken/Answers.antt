@@ -7,4 +7,4 @@ use Rattle.offences.proofs.breaking.is_broken.Goals as goal
 pub returns : goal.returns
 returns g c =
     let pair = c.args.pair.now in
-    c.does-break.ensures ∙ ap (breaks_limit (plan_in g.T.Time.moment pair) (table_in g.T.Time.moment pair) c.args.row) (limit_there g.T.Time.moment pair.head.now pair.limits.now c.args.j c.index-pair-j.result c.requires)
+    c.does_break.ensures ∙ ap (breaks_limit (plan_in g.T.Time.moment pair) (table_in g.T.Time.moment pair) c.args.row) (limit_there g.T.Time.moment pair.head.now pair.limits.now c.args.j c.index-pair-j.result c.requires)

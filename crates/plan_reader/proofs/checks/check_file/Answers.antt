@@ -15,40 +15,40 @@ same_body : (r : Reader) (file : List ℕ) → r.file.now ≡ file → r.header 
 same_body r file e h =
     ap (λ f. passing f (all_fields r.header f)) e ∙ ap (λ h. passing file (all_fields h file)) h
 
-pub returns-in-err-reader : goal.returns-in-err-reader
-returns-in-err-reader g c =
-    let p = err_from_is_err_and c.from-residual.result c.from-residual.ensures.1 in
-    let e = open_stops g.T.Time.kind c.args.file.now c.args.room _ c.version-of.ensures _ c.in-err-reader.ensures.answer in
+pub returns-in_err-reader : goal.returns-in_err-reader
+returns-in_err-reader g c =
+    let p = err_from_is_err_and c.from_residual.result c.from_residual.ensures.1 in
+    let e = open_stops g.T.Time.kind c.args.file.now c.args.room _ c.version_of.ensures _ c.in_err-reader.ensures.answer in
     rw (p.1, p.2) (record { answer = e; known = tt })
 
-pub returns-in-err-check-room : goal.returns-in-err-check-room
-returns-in-err-check-room g c =
-    let p = err_from_is_err_and c.from-residual-in-err-check-room.result c.from-residual-in-err-check-room.ensures.1 in
+pub returns-in_err-check_room : goal.returns-in_err-check_room
+returns-in_err-check_room g c =
+    let p = err_from_is_err_and c.from_residual-in_err-check_room.result c.from_residual-in_err-check_room.ensures.1 in
     let kind = g.T.Time.kind in
     let file = c.args.file.now in
-    let o = opened kind file c.args.room _ c.version-of.ensures _ c.in-ok-reader.ensures.answer in
+    let o = opened kind file c.args.room _ c.version_of.ensures _ c.in_ok-reader.ensures.answer in
     let size : c.from.result ≡ (header file).limits = c.from.ensures ∙ ap (λ h. h.limits) (c.header-header.ensures ∙ o.0) in
-    let e = short kind file c.args.room o.1 _ size _ c.in-err-check-room.ensures in
+    let e = short kind file c.args.room o.1 _ size _ c.in_err-check_room.ensures in
     rw (p.1, p.2) (record { answer = e; known = tt })
 
-pub returns-in-err-check-records : goal.returns-in-err-check-records
-returns-in-err-check-records g c =
-    let p = err_from_is_err_and c.from-residual-in-err-check-records.result c.from-residual-in-err-check-records.ensures.1 in
+pub returns-in_err-check_records : goal.returns-in_err-check_records
+returns-in_err-check_records g c =
+    let p = err_from_is_err_and c.from_residual-in_err-check_records.result c.from_residual-in_err-check_records.ensures.1 in
     let kind = g.T.Time.kind in
     let file = c.args.file.now in
-    let o = opened kind file c.args.room _ c.version-of.ensures _ c.in-ok-reader.ensures.answer in
+    let o = opened kind file c.args.room _ c.version_of.ensures _ c.in_ok-reader.ensures.answer in
     let size : c.from.result ≡ (header file).limits = c.from.ensures ∙ ap (λ h. h.limits) (c.header-header.ensures ∙ o.0) in
-    let enough : yes ≡ room_answer c.args.room (header file).limits = c.in-ok-check-room.ensures ∙ ap (room_answer c.args.room) size in
-    let e = records_stop kind file c.args.room o.1 enough _ (c.in-err-check-records.ensures ∙ same_body c.in-ok-reader.reader file c.in-ok-reader.ensures.opened.0 o.0) in
+    let enough : yes ≡ room_answer c.args.room (header file).limits = c.in_ok-check_room.ensures ∙ ap (room_answer c.args.room) size in
+    let e = records_stop kind file c.args.room o.1 enough _ (c.in_err-check_records.ensures ∙ same_body c.in_ok-reader.reader file c.in_ok-reader.ensures.opened.0 o.0) in
     rw (p.1, p.2) (record { answer = e; known = tt })
 
 pub returns : goal.returns
 returns g c =
     let kind = g.T.Time.kind in
     let file = c.args.file.now in
-    let o = opened kind file c.args.room _ c.version-of.ensures _ c.in-ok-reader.ensures.answer in
+    let o = opened kind file c.args.room _ c.version_of.ensures _ c.in_ok-reader.ensures.answer in
     let there = c.header-header.ensures ∙ o.0 in
     let size : c.from.result ≡ (header file).limits = c.from.ensures ∙ ap (λ h. h.limits) there in
-    let enough : yes ≡ room_answer c.args.room (header file).limits = c.in-ok-check-room.ensures ∙ ap (room_answer c.args.room) size in
-    let all : yes ≡ passing file (body_fields file) = c.in-ok-check-records.ensures ∙ same_body c.in-ok-reader.reader file c.in-ok-reader.ensures.opened.0 o.0 in
+    let enough : yes ≡ room_answer c.args.room (header file).limits = c.in_ok-check_room.ensures ∙ ap (room_answer c.args.room) size in
+    let all : yes ≡ passing file (body_fields file) = c.in_ok-check_records.ensures ∙ same_body c.in_ok-reader.reader file c.in_ok-reader.ensures.opened.0 o.0 in
     record { answer = ap (λ h. given h.limits) there ∙ all_counted kind file c.args.room o.1 enough all; known = (there, all_read kind file c.args.room o.1 enough all) }

@@ -1,4 +1,4 @@
-use Rattle.std.proofs.Common.{◌≡◌, ◌+◌, ◌≤◌, [], ◌∷◌, sym, refl, ap, ◌∙◌, arith}
+use Rattle.std.proofs.Common.{◌≡◌, ◌+◌, [], ◌∷◌, sym, ap, ◌∙◌, arith}
 use Rattle.std.proofs.lemmas.Result.{err_from_is_err_and}
 use Rattle.fields.specs.Fields.{checked}
 use Rattle.fields.specs.Laid.{laid}
@@ -13,26 +13,26 @@ pub pass-requires : goal.pass-requires
 pass-requires c =
     (c.requires.0, (c.requires.1.0, omega (arith, c.from.ensures, c.from-2.ensures, c.from-3.ensures, ap (λ h. record_count h) c.requires.1.1)))
 
-pub returns-in-err-end : goal.returns-in-err-end
-returns-in-err-end c =
-    let p = err_from_is_err_and c.from-residual.result c.from-residual.ensures.1 in
+pub returns-in_err-end : goal.returns-in_err-end
+returns-in_err-end c =
+    let p = err_from_is_err_and c.from_residual.result c.from_residual.ensures.1 in
     let r = c.args.reader in
     let file = r.file.now in
     let h = r.header in
     let count : c.from.result + c.from-2.result + c.from-3.result ≡ record_count h = omega (arith, c.from.ensures, c.from-2.ensures, c.from-3.ensures, ap (λ h. record_count h) c.requires.1.1) in
-    let e = c.in-err-end.ensures ∙ ap (λ n. checked file (laid n (record_fields h file)) (stood r n)) count in
+    let e = c.in_err-end.ensures ∙ ap (λ n. checked file (laid n (record_fields h file)) (stood r n)) count in
     rw (p.1, p.2) (halted file (laid (record_count h) (record_fields h file)) (end_field file (record_place h file (record_count h)) ∷ []) (stood r (record_count h)) tt _ e)
 
-pub returns-in-err-next : goal.returns-in-err-next
-returns-in-err-next c =
-    let p = err_from_is_err_and c.from-residual-in-err-next.result c.from-residual-in-err-next.ensures.1 in
+pub returns-in_err-next : goal.returns-in_err-next
+returns-in_err-next c =
+    let p = err_from_is_err_and c.from_residual-in_err-next.result c.from_residual-in_err-next.ensures.1 in
     let r = c.args.reader in
     let file = r.file.now in
     let h = r.header in
     let count : c.from.result + c.from-2.result + c.from-3.result ≡ record_count h = omega (arith, c.from.ensures, c.from-2.ensures, c.from-3.ensures, ap (λ h. record_count h) c.requires.1.1) in
-    let e = c.in-ok-end.ensures ∙ ap (λ n. checked file (laid n (record_fields h file)) (stood r n)) count in
+    let e = c.in_ok-end.ensures ∙ ap (λ n. checked file (laid n (record_fields h file)) (stood r n)) count in
     let o = onward file (laid (record_count h) (record_fields h file)) (end_field file (record_place h file (record_count h)) ∷ []) (stood r (record_count h)) _ tt e in
-    rw (p.1, p.2) (end_halts r _ o.0 _ c.in-err-next.ensures.answer ∙ sym o.1)
+    rw (p.1, p.2) (end_halts r _ o.0 _ c.in_err-next.ensures.answer ∙ sym o.1)
 
 pub returns : goal.returns
 returns c =
@@ -40,6 +40,6 @@ returns c =
     let file = r.file.now in
     let h = r.header in
     let count : c.from.result + c.from-2.result + c.from-3.result ≡ record_count h = omega (arith, c.from.ensures, c.from-2.ensures, c.from-3.ensures, ap (λ h. record_count h) c.requires.1.1) in
-    let e = c.in-ok-end.ensures ∙ ap (λ n. checked file (laid n (record_fields h file)) (stood r n)) count in
+    let e = c.in_ok-end.ensures ∙ ap (λ n. checked file (laid n (record_fields h file)) (stood r n)) count in
     let o = onward file (laid (record_count h) (record_fields h file)) (end_field file (record_place h file (record_count h)) ∷ []) (stood r (record_count h)) _ tt e in
-    end_passes r _ o.0 _ c.in-ok-next.ensures.answer ∙ sym o.1
+    end_passes r _ o.0 _ c.in_ok-next.ensures.answer ∙ sym o.1

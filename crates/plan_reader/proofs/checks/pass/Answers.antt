@@ -1,4 +1,4 @@
-use Rattle.std.proofs.Common.{◌≡◌, sym, refl, ap, ◌∙◌, arith}
+use Rattle.std.proofs.Common.{◌≡◌, refl, ap, ◌∙◌, arith}
 use Rattle.std.proofs.lemmas.Result.{err_from_is_err_and}
 use Rattle.refusals.specs.Answers.{given}
 use Rattle.fields.specs.Laid.{laid}
@@ -12,22 +12,22 @@ use Rattle.plan_reader.proofs.checks.pass.Goals as goal
 pub loop-i-init : goal.loop-i-init
 loop-i-init c = (stood_first c.args.reader c.requires.0 c.requires.1.0, refl)
 
-pub returns-in-err-next : goal.returns-in-err-next
-returns-in-err-next c =
-    let p = err_from_is_err_and c.from-residual.result c.from-residual.ensures.1 in
+pub returns-in_err-next : goal.returns-in_err-next
+returns-in_err-next c =
+    let p = err_from_is_err_and c.from_residual.result c.from_residual.ensures.1 in
     let r = c.args.reader in
     let file = r.file.now in
     let fields = laid c.args.count (record_fields r.header file) in
-    let here = halts r c.loop-i.-i _ c.loop-i.invariant.0 _ c.in-err-next.ensures.answer in
-    let all = stops file (record_fields r.header file) c.args.count _ c.loop-i.-i _ refl c.loop-i-test.true c.loop-i.invariant.1 here in
+    let here = halts r c.loop-i._i _ c.loop-i.invariant.0 _ c.in_err-next.ensures.answer in
+    let all = stops file (record_fields r.header file) c.args.count _ c.loop-i._i _ refl c.loop-i-test.true c.loop-i.invariant.1 here in
     rw (p.1, p.2) (stopped file fields tt (stood r c.args.count) _ all)
 
 pub loop-i-preserved : goal.loop-i-preserved
 loop-i-preserved c =
     let r = c.args.reader in
     let file = r.file.now in
-    let i = c.loop-i.-i in
-    let e = c.in-ok-next.ensures in
+    let i = c.loop-i._i in
+    let e = c.in_ok-next.ensures in
     let s = steps r i _ c.loop-i.invariant.0 (omega (arith, c.requires.1.1, c.loop-i-test.true)) _ e.answer in
     (e.moved ∙ s.0, passes file (record_fields r.header file) i c.loop-i.invariant.1 s.1)
 
@@ -36,6 +36,6 @@ returns c =
     let r = c.args.reader in
     let file = r.file.now in
     let n = c.args.count in
-    let all = ends file (record_fields r.header file) n n c.loop-i.-i refl c.loop-i.auto.-i-end c.loop-i-test.false c.loop-i.invariant.1 in
-    let i : c.loop-i.-i ≡ n = omega (arith, c.loop-i.auto.-i-end, c.loop-i-test.false) in
+    let all = ends file (record_fields r.header file) n n c.loop-i._i refl c.loop-i.auto._i-end c.loop-i-test.false c.loop-i.invariant.1 in
+    let i : c.loop-i._i ≡ n = omega (arith, c.loop-i.auto._i-end, c.loop-i-test.false) in
     ap given (c.loop-i.invariant.0 ∙ ap (stood r) i) ∙ (passed file (laid n (record_fields r.header file)) tt tt (stood r n) all).1

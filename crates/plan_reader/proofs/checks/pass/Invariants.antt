@@ -7,4 +7,4 @@ use Rattle.plan_reader.proofs.checks.pass.Given as goal
 
 abbrev pub invariant-loop-i : goal.invariant-loop-i
 invariant-loop-i l =
-    (l.reader ≡ stood l.initial.reader l.-i) × (yes ≡ passing l.initial.reader.file.now (laid l.-i (record_fields l.initial.reader.header l.initial.reader.file.now)))
+    (l.reader ≡ stood l.initial.reader l._i) × (yes ≡ passing l.initial.reader.file.now (laid l._i (record_fields l.initial.reader.header l.initial.reader.file.now)))

@@ -1,4 +1,4 @@
-use Rattle.std.proofs.Common.{◌≡◌, ℕ, ◌+◌, ◌*◌, ◌<◌, map, length, take, drop, ap, ◌∙◌, arith}
+use Rattle.std.proofs.Common.{ℕ, ◌+◌, ◌*◌, ◌<◌, map, length, take, drop, ap, ◌∙◌, arith}
 use Rattle.times.specs.Coding.{width_of}
 use Rattle.times.specs.Moments.{Moment}
 use Rattle.plans.specs.Views.{limit_of}

@@ -1,5 +1,4 @@
-use Rattle.std.proofs.Common.{◌≡◌, ◌+◌, ◌-◌, take, drop, subst, arith}
-use Rattle.heads.specs.Heads.{HeadRefused, outline}
+use Rattle.std.proofs.Common.{◌≡◌, ◌+◌, ◌-◌, arith}
 use Rattle.plan_reader.proofs.Limits.{no_head_refusal}
 use Rattle.plan_reader.proofs.filling.head_at.Goals as goal
 
@@ -8,4 +7,4 @@ unreachable-requires c =
     let header = c.args.header.now in
     let at = c.args.at in
     let size : (at + c.from.result) - at ≡ header.tests = omega (arith, c.from.ensures) in
-    no_head_refusal _ _ c.requires.1 (rw size at c.in-default.ensures.says)
+    no_head_refusal _ _ c.requires.1 (rw size at c.in_default.ensures.says)

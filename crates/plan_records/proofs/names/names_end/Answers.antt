@@ -1,30 +1,29 @@
-use Rattle.std.proofs.Common.{◌≡◌, ◌+◌, ◌≤◌, length, sym, refl, ap, ◌∙◌, subst, arith}
+use Rattle.std.proofs.Common.{◌≡◌, refl, ap, ◌∙◌, arith}
 use Rattle.std.proofs.lemmas.Result.{err_from_is_err_and}
-use Rattle.fields.specs.Fields.{checked}
-use Rattle.refusals.specs.Answers.{given, refused}
+use Rattle.refusals.specs.Answers.{given}
 use Rattle.fields.proofs.Chains.{passed, stopped}
 use Rattle.fields.proofs.Laid.{passes, stops, ends}
 use Rattle.plan_records.specs.Names.{name_fields, name_place, names_fields}
 use Rattle.plan_records.proofs.Naming.{name_passes, name_stops, name_inside}
 use Rattle.plan_records.proofs.names.names_end.Goals as goal
 
-pub returns-in-err-size : goal.returns-in-err-size
-returns-in-err-size c =
-    let p = err_from_is_err_and c.from-residual.result c.from-residual.ensures.1 in
+pub returns-in_err-size : goal.returns-in_err-size
+returns-in_err-size c =
+    let p = err_from_is_err_and c.from_residual.result c.from_residual.ensures.1 in
     let names = c.args.names.now in
-    let here = name_stops names 0 c.loop-i.i c.loop-i.at c.loop-i.invariant.0 _ c.in-err-size.ensures in
+    let here = name_stops names 0 c.loop-i.i c.loop-i.at c.loop-i.invariant.0 _ c.in_err-size.ensures in
     let all = stops names (λ i. name_fields names 0 i (name_place names 0 i)) c.args.points c.args.points c.loop-i.i _ refl c.loop-i-test.true c.loop-i.invariant.1 here in
     rw (p.1, p.2) (stopped names (names_fields names 0 c.args.points) tt (name_place names 0 c.args.points) _ all)
 
-pub overflow-add-at : goal.overflow-add-at
-overflow-add-at c =
-    let inside = name_inside c.args.names.now 0 c.loop-i.i c.loop-i.at _ c.in-ok-size.ensures in
+pub overflow_add-at : goal.overflow_add-at
+overflow_add-at c =
+    let inside = name_inside c.args.names.now 0 c.loop-i.i c.loop-i.at _ c.in_ok-size.ensures in
     omega (arith, inside)
 
 pub loop-i-preserved : goal.loop-i-preserved
 loop-i-preserved c =
     let names = c.args.names.now in
-    let p = name_passes names 0 c.loop-i.i c.loop-i.at c.loop-i.invariant.0 _ c.in-ok-size.ensures in
+    let p = name_passes names 0 c.loop-i.i c.loop-i.at c.loop-i.invariant.0 _ c.in_ok-size.ensures in
     (p.0, passes names (λ i. name_fields names 0 i (name_place names 0 i)) c.loop-i.i c.loop-i.invariant.1 p.1)
 
 pub returns : goal.returns

@@ -2,12 +2,12 @@ use Rattle.std.proofs.Common.{◌≡◌, subst}
 use Rattle.refusals.specs.Answers.{answer_of}
 use Rattle.fields.specs.Fields.{checked}
 use Rattle.plan_records.specs.Faults.{record_refusal}
-use Rattle.plan_records.specs.Records.{Sort, fields_of, size_of}
+use Rattle.plan_records.specs.Records.{fields_of, size_of}
 use Rattle.plan_records.proofs.Recording.{is_name}
 use Rattle.plan_records.proofs.sizes.record_size.Goals as goal
 
-pub name-size-requires : goal.name-size-requires
-name-size-requires c = is_name c.args.header.now c.args.number c.in-Name.ensures
+pub name_size-requires : goal.name_size-requires
+name_size-requires c = is_name c.args.header.now c.args.number c.in-Name.ensures
 
 pub returns-in-Name : goal.returns-in-Name
 returns-in-Name c =

@@ -14,5 +14,5 @@ returns g c =
     let head = c.args.head.now in
     let limits = c.args.limits.now in
     let kept = contents_of t.moment head limits [] in
-    let spelled = counts_spelled t.kind kept _ _ _ _ _ _ c.version.ensures (sym (length-map limits (limit_of t.moment))) (omega arith) c.points.ensures (c.letters.ensures ∙ sym (length-tests head)) c.to-be-bytes.ensures c.to-be-bytes-2.ensures in
-    put_mid-paste 0 9 c.args.file.now _ (count_bytes t.kind kept) 9 (c.copy-from-slice.ensures.after ∙ spelled) refl refl
+    let spelled = counts_spelled t.kind kept _ _ _ _ _ _ c.version.ensures (sym (length-map limits (limit_of t.moment))) (omega arith) c.points.ensures (c.letters.ensures ∙ sym (length-tests head)) c.to_be_bytes.ensures c.to_be_bytes-2.ensures in
+    put_mid-paste 0 9 c.args.file.now _ (count_bytes t.kind kept) 9 (c.copy_from_slice.ensures.after ∙ spelled) refl refl

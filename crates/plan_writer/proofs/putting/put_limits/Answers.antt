@@ -1,7 +1,7 @@
 use Rattle.std.proofs.Common.{◌≡◌, ◌+◌, ◌*◌, ◌≤◌, map, length, take, ap, ◌∙◌, subst, arith}
 use lib.Seq.{paste}
 use Rattle.std.proofs.lemmas.List.{take_all}
-use Rattle.std.specs.List.{flat_map, AllByRecursion as All}
+use Rattle.std.specs.List.{flat_map, AllByRecursion}
 use Rattle.times.specs.Coding.{width_of}
 use Rattle.time_fields.specs.Kinds.{OfKind}
 use Rattle.plans.specs.Views.{limit_of}
@@ -41,5 +41,5 @@ returns g c =
     let bytes = subst (λ l. c.loop-j.file ≡ paste c.args.file.now c.args.place (flat_map (limit_bytes t.kind) (map (limit_of t.moment) l)) (width * c.loop-j.j)) whole c.loop-j.invariant.1 in
     record {
       bytes = subst (λ n. c.loop-j.file ≡ paste c.args.file.now c.args.place (flat_map (limit_bytes t.kind) (map (limit_of t.moment) limits)) n) long bytes;
-      coded = subst (λ l. All (λ l. OfKind t.kind l.bound) (map (limit_of t.moment) l)) whole c.loop-j.invariant.2;
+      coded = subst (λ l. AllByRecursion (λ l. OfKind t.kind l.bound) (map (limit_of t.moment) l)) whole c.loop-j.invariant.2;
     }

@@ -9,32 +9,32 @@ use Rattle.plan_contents.proofs.Written.{names_short, memory_stops, names_stop, 
 use Rattle.plan_writer.specs.Lent.{contents_of}
 use Rattle.plan_writer.proofs.writing.check_plan.Goals as goal
 
-pub returns-in-err-check-limits : goal.returns-in-err-check-limits
-returns-in-err-check-limits g c =
-    let p = err_from_is_err_and c.from-residual.result c.from-residual.ensures.1 in
+pub returns-in_err-check_limits : goal.returns-in_err-check_limits
+returns-in_err-check_limits g c =
+    let p = err_from_is_err_and c.from_residual.result c.from_residual.ensures.1 in
     let plan = contents_of g.T.Time.moment c.args.head.now c.args.limits.now c.args.names.now in
-    rw (p.1, p.2) (memory_stops g.T.Time.kind plan c.args.room _ c.in-err-check-limits.ensures.answer)
+    rw (p.1, p.2) (memory_stops g.T.Time.kind plan c.args.room _ c.in_err-check_limits.ensures.answer)
 
-pub returns-in-err-check-names : goal.returns-in-err-check-names
-returns-in-err-check-names g c =
-    let p = err_from_is_err_and c.from-residual-in-err-check-names.result c.from-residual-in-err-check-names.ensures.1 in
+pub returns-in_err-check_names : goal.returns-in_err-check_names
+returns-in_err-check_names g c =
+    let p = err_from_is_err_and c.from_residual-in_err-check_names.result c.from_residual-in_err-check_names.ensures.1 in
     let plan = contents_of g.T.Time.moment c.args.head.now c.args.limits.now c.args.names.now in
-    rw (p.1, p.2) (names_stop g.T.Time.kind plan c.args.room c.in-ok-check-limits.ensures.answer c.points.result c.points.ensures _ c.in-err-check-names.ensures)
+    rw (p.1, p.2) (names_stop g.T.Time.kind plan c.args.room c.in_ok-check_limits.ensures.answer c.points.result c.points.ensures _ c.in_err-check_names.ensures)
 
-pub plan-length-length-requires : goal.plan-length-length-requires
-plan-length-length-requires g c =
+pub plan_length-length-requires : goal.plan_length-length-requires
+plan_length-length-requires g c =
     let names = c.args.names.now in
-    let kept = judged names (run_fields names c.points.result) tt (given c.in-ok-check-names.field-0) c.in-ok-check-names.ensures in
-    let few = c.in-ok-check-limits.ensures.says.few in
+    let kept = judged names (run_fields names c.points.result) tt (given c.in_ok-check_names.field-0) c.in_ok-check_names.ensures in
+    let few = c.in_ok-check_limits.ensures.says.few in
     (omega (arith, few, length-map c.args.limits.now (limit_of g.T.Time.moment)), omega (arith, names_short names c.points.result kept, c.points.ensures, c.args.head.now.few))
 
-pub returns-in-err-check-room : goal.returns-in-err-check-room
-returns-in-err-check-room g c =
-    let p = err_from_is_err_and c.from-residual-in-err-check-room.result c.from-residual-in-err-check-room.ensures.1 in
+pub returns-in_err-check_room : goal.returns-in_err-check_room
+returns-in_err-check_room g c =
+    let p = err_from_is_err_and c.from_residual-in_err-check_room.result c.from_residual-in_err-check_room.ensures.1 in
     let plan = contents_of g.T.Time.moment c.args.head.now c.args.limits.now c.args.names.now in
-    rw (p.1, p.2) (room_stops g.T.Time.kind plan c.args.room c.in-ok-check-limits.ensures.answer c.points.result c.points.ensures c.in-ok-check-names.ensures c.plan-length-length.result c.plan-length-length.ensures _ c.in-err-check-room.ensures)
+    rw (p.1, p.2) (room_stops g.T.Time.kind plan c.args.room c.in_ok-check_limits.ensures.answer c.points.result c.points.ensures c.in_ok-check_names.ensures c.plan_length-length.result c.plan_length-length.ensures _ c.in_err-check_room.ensures)
 
 pub returns : goal.returns
 returns g c =
     let plan = contents_of g.T.Time.moment c.args.head.now c.args.limits.now c.args.names.now in
-    goes g.T.Time.kind plan c.args.room c.in-ok-check-limits.ensures.answer c.points.result c.points.ensures c.in-ok-check-names.ensures c.plan-length-length.result c.plan-length-length.ensures c.in-ok-check-room.ensures
+    goes g.T.Time.kind plan c.args.room c.in_ok-check_limits.ensures.answer c.points.result c.points.ensures c.in_ok-check_names.ensures c.plan_length-length.result c.plan_length-length.ensures c.in_ok-check_room.ensures

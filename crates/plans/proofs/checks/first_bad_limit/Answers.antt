@@ -7,7 +7,7 @@ use Rattle.plans.proofs.checks.first_bad_limit.Goals as goal
 
 pub loop-j-preserved : goal.loop-j-preserved
 loop-j-preserved g c =
-    (first_passes (limit_refusal (plan_in g.T.Time.moment c.args.pair.now)) c.loop-j.j c.loop-j.invariant.0 c.in-default.ensures, omega arith)
+    (first_passes (limit_refusal (plan_in g.T.Time.moment c.args.pair.now)) c.loop-j.j c.loop-j.invariant.0 c.in_default.ensures, omega arith)
 
 pub returns-in-Some : goal.returns-in-Some
 returns-in-Some g c =

@@ -1,6 +1,6 @@
-use Rattle.std.proofs.Common.{◌≡◌, ◌*◌, ◌^◌, length, sym, refl, ap, ◌∙◌}
+use Rattle.std.proofs.Common.{◌≡◌, ◌*◌, ◌^◌, sym, ap, ◌∙◌}
 use Rattle.plans.specs.Lent.{plan_in, table_in}
-use Rattle.plans.specs.Memory.{count_refusal, limits_refusal, times_refusal}
+use Rattle.plans.specs.Memory.{times_refusal}
 use Rattle.refusals.specs.Searches.{or_else}
 use Rattle.plans.proofs.Views.{many_there, many_absent, count_there, count_absent}
 use Rattle.plans.proofs.checks.first_fault.Goals as goal
@@ -33,4 +33,4 @@ returns g c =
     let p = plan_in g.T.Time.moment pair in
     let ts = table_in g.T.Time.moment pair in
     let size : c.from.result * c.from-2.result ≡ 2 ^ head.letters * head.points = cc in
-    c.first-bad-time.ensures ∙ ap (λ o. or_else o (times_refusal p ts)) c.in-default.ensures ∙ count_absent g.T.Time.moment head pair.limits.now pair.times.now _ (c.if-pair-from.false ∙ size) ∙ many_absent g.T.Time.moment head pair.limits.now pair.times.now _ c.if-pair-gt256.false
+    c.first_bad_time.ensures ∙ ap (λ o. or_else o (times_refusal p ts)) c.in_default.ensures ∙ count_absent g.T.Time.moment head pair.limits.now pair.times.now _ (c.if-pair-from.false ∙ size) ∙ many_absent g.T.Time.moment head pair.limits.now pair.times.now _ c.if-pair-gt256.false

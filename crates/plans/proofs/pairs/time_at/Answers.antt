@@ -9,4 +9,4 @@ returns-then-at-times g c =
 
 pub returns-else-at-times : goal.returns-else-at-times
 returns-else-at-times g c =
-    c.whole-ticks.ensures ∙ past_map g.T.Time.moment c.args.times.now c.args.at origin c.if-at-times.false
+    c.whole_ticks.ensures ∙ past_map g.T.Time.moment c.args.times.now c.args.at origin c.if-at-times.false

@@ -13,7 +13,7 @@ use Rattle.runs.proofs.opening.start.Goals as goal
 pub returns : goal.returns
 returns g c =
     let pair = c.args.pair.now in
-    let rule = c.args.-rule.now in
+    let rule = c.args._rule.now in
     let head = pair.head.now in
     let of = g.T.Time.moment in
     let p = plan_in of pair in

@@ -8,8 +8,8 @@ use Rattle.shift_theory.specs.Lent.{delay_in}
 use Rattle.shift_theory.specs.Shifts.{timely}
 use Rattle.shifts.proofs.checks.are_timely.Goals as goal
 
-pub is-row-timely-requires : goal.is-row-timely-requires
-is-row-timely-requires g c =
+pub is_row_timely-requires : goal.is_row_timely-requires
+is_row_timely-requires g c =
     let pair = c.args.pair.now in
     record { kept = c.requires; row = omega (arith, c.rows-row-end.ensures, rows_of g.T.Time.moment pair.head.now pair.limits.now) }
 
@@ -18,14 +18,14 @@ loop-row-preserved g c =
     let of = g.T.Time.moment in
     let pair = c.args.pair.now in
     let p = plan_in of pair in
-    (every_passes (λ row. every (letters p) (timely p (table_in of pair) (delay_in pair) row)) c.loop-row.row c.is-row-timely.result c.loop-row.invariant.0 c.is-row-timely.ensures c.if-not-is-row-timely.false, omega arith)
+    (every_passes (λ row. every (letters p) (timely p (table_in of pair) (delay_in pair) row)) c.loop-row.row c.is_row_timely.result c.loop-row.invariant.0 c.is_row_timely.ensures c.if-not-is_row_timely.false, omega arith)
 
-pub returns-then-not-is-row-timely : goal.returns-then-not-is-row-timely
-returns-then-not-is-row-timely g c =
+pub returns-then-not-is_row_timely : goal.returns-then-not-is_row_timely
+returns-then-not-is_row_timely g c =
     let of = g.T.Time.moment in
     let pair = c.args.pair.now in
     let p = plan_in of pair in
-    every_stops (λ row. every (letters p) (timely p (table_in of pair) (delay_in pair) row)) (rows p) _ c.loop-row.row (c.rows-row-end.ensures ∙ rows_of of pair.head.now pair.limits.now) c.loop-row-test.true (sym c.is-row-timely.ensures ∙ c.if-not-is-row-timely.true)
+    every_stops (λ row. every (letters p) (timely p (table_in of pair) (delay_in pair) row)) (rows p) _ c.loop-row.row (c.rows-row-end.ensures ∙ rows_of of pair.head.now pair.limits.now) c.loop-row-test.true (sym c.is_row_timely.ensures ∙ c.if-not-is_row_timely.true)
 
 pub returns : goal.returns
 returns g c =

@@ -6,8 +6,8 @@ use Rattle.shift_theory.specs.Lent.{delay_in}
 use Rattle.shift_theory.specs.Shifts.{timely}
 use Rattle.shifts.proofs.checks.is_row_timely.Goals as goal
 
-pub is-timely-requires : goal.is-timely-requires
-is-timely-requires g c =
+pub is_timely-requires : goal.is_timely-requires
+is_timely-requires g c =
     let pair = c.args.pair.now in
     record { kept = c.requires.kept; row = c.requires.row; letter = omega (arith, letters_of g.T.Time.moment pair.head.now pair.limits.now) }
 
@@ -15,13 +15,13 @@ pub loop-letter-preserved : goal.loop-letter-preserved
 loop-letter-preserved g c =
     let of = g.T.Time.moment in
     let pair = c.args.pair.now in
-    (every_passes (timely (plan_in of pair) (table_in of pair) (delay_in pair) c.args.row) c.loop-letter.letter c.is-timely.result c.loop-letter.invariant.0 c.is-timely.ensures c.if-not-is-timely.false, omega arith)
+    (every_passes (timely (plan_in of pair) (table_in of pair) (delay_in pair) c.args.row) c.loop-letter.letter c.is_timely.result c.loop-letter.invariant.0 c.is_timely.ensures c.if-not-is_timely.false, omega arith)
 
-pub returns-then-not-is-timely : goal.returns-then-not-is-timely
-returns-then-not-is-timely g c =
+pub returns-then-not-is_timely : goal.returns-then-not-is_timely
+returns-then-not-is_timely g c =
     let of = g.T.Time.moment in
     let pair = c.args.pair.now in
-    letter_fails of pair.head.now pair.limits.now (timely (plan_in of pair) (table_in of pair) (delay_in pair) c.args.row) _ c.loop-letter.letter c.is-timely.result c.letters-letter-end.ensures c.loop-letter-test.true c.is-timely.ensures c.if-not-is-timely.true
+    letter_fails of pair.head.now pair.limits.now (timely (plan_in of pair) (table_in of pair) (delay_in pair) c.args.row) _ c.loop-letter.letter c.is_timely.result c.letters-letter-end.ensures c.loop-letter-test.true c.is_timely.ensures c.if-not-is_timely.true
 
 pub returns : goal.returns
 returns g c =

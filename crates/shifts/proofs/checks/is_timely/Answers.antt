@@ -18,4 +18,4 @@ returns g c =
     let o = moment p ts c.args.row x in
     let placed = placed_of of pair.head.now pair.limits.now c.args.letter c.requires.letter in
     let kept = in_table x o (c.requires.kept.times.each c.args.row x c.requires.row placed) in
-    c.is-table-time.ensures ∙ ap table_rule c.new-time.ensures ∙ late_ticks o (delay_in pair) kept
+    c.is_table_time.ensures ∙ ap table_rule c.new_time.ensures ∙ late_ticks o (delay_in pair) kept

@@ -13,7 +13,7 @@ loop-j-preserved g c =
     let pair = c.args.pair.now in
     let p = plan_in of pair in
     let d = delay_in pair in
-    let inside : c.loop-j.j < limits_size p = omega (arith, c.count-limits-j-end.ensures) in
+    let inside : c.loop-j.j < limits_size p = omega (arith, c.count_limits-j-end.ensures) in
     fill_more (limit_of of) (limits_size p) (shifted_limits p d) c.args.limits.now (length-limits p d) c.loop-j.j c.loop-j.limits c.limit_at.result _ inside (omega arith) c.limit_at.ensures c.loop-j.invariant
 
 pub returns : goal.returns
@@ -22,4 +22,4 @@ returns g c =
     let pair = c.args.pair.now in
     let p = plan_in of pair in
     let d = delay_in pair in
-    record { front = fill_all (limit_of of) (limits_size p) (shifted_limits p d) c.args.limits.now (length-limits p d) c.loop-j.j c.loop-j.limits (omega (arith, c.count-limits-j-end.ensures)) c.loop-j.invariant; rest = c.loop-j.invariant.1 }
+    record { front = fill_all (limit_of of) (limits_size p) (shifted_limits p d) c.args.limits.now (length-limits p d) c.loop-j.j c.loop-j.limits (omega (arith, c.count_limits-j-end.ensures)) c.loop-j.invariant; rest = c.loop-j.invariant.1 }

@@ -13,7 +13,7 @@ loop-at-preserved g c =
     let p = plan_in of pair in
     let ts = table_in of pair in
     let d = delay_in pair in
-    let inside : c.loop-at.at < times_size p = omega (arith, c.count-times-at-end.ensures) in
+    let inside : c.loop-at.at < times_size p = omega (arith, c.count_times-at-end.ensures) in
     fill_more of (times_size p) (shifted_table p ts d) c.args.times.now (length-table p d ts) c.loop-at.at c.loop-at.times c.time_at.result origin inside (omega arith) c.time_at.ensures c.loop-at.invariant
 
 pub returns : goal.returns
@@ -23,4 +23,4 @@ returns g c =
     let p = plan_in of pair in
     let ts = table_in of pair in
     let d = delay_in pair in
-    record { front = fill_all of (times_size p) (shifted_table p ts d) c.args.times.now (length-table p d ts) c.loop-at.at c.loop-at.times (omega (arith, c.count-times-at-end.ensures)) c.loop-at.invariant; rest = c.loop-at.invariant.1 }
+    record { front = fill_all of (times_size p) (shifted_table p ts d) c.args.times.now (length-table p d ts) c.loop-at.at c.loop-at.times (omega (arith, c.count_times-at-end.ensures)) c.loop-at.invariant; rest = c.loop-at.invariant.1 }

@@ -12,16 +12,16 @@ returns-then-j-old g c =
     let old = limit_there of pair.head.now pair.limits.now c.args.j c.index-pair-j.result c.if-j-old.true in
     old ∙ old_at (plan_in of pair) (delay_in pair) c.args.j (omega (arith, limits_of of pair.head.now pair.limits.now))
 
-pub overflow-cast-letter : goal.overflow-cast-letter
-overflow-cast-letter g c =
+pub overflow_cast-letter : goal.overflow_cast-letter
+overflow_cast-letter g c =
     let of = g.T.Time.moment in
     let pair = c.args.pair.now in
     let m = length pair.limits.now in
     let below = letter_below (plan_in of pair) (delay_in pair) m (limits_of of pair.head.now pair.limits.now) c.args.j c.if-j-old.false c.requires in
     omega (arith, below, letters_of of pair.head.now pair.limits.now, pair.head.now.lettered)
 
-pub overflow-add-new : goal.overflow-add-new
-overflow-add-new g c =
+pub overflow_add-new : goal.overflow_add-new
+overflow_add-new g c =
     let of = g.T.Time.moment in
     let pair = c.args.pair.now in
     let m = length pair.limits.now in
@@ -46,4 +46,4 @@ returns-else-j-old-eq0 g c =
     let at = back_at (plan_in of pair) (delay_in pair) m (limits_of of pair.head.now pair.limits.now) c.args.j c.if-j-old.false c.requires c.if-j-old-eq0.false in
     let new = ap (λ n. n + (c.args.j - m) / 2) c.points.ensures in
     let bound = as_opposite _ (delay_in pair) c.delay-delay.ensures pair.head.now.delayed in
-    c.plain-limit-else-j-old-eq0.ensures ∙ same_limit _ _ _ _ _ _ new c.point-test.ensures bound ∙ at
+    c.plain_limit-else-j-old-eq0.ensures ∙ same_limit _ _ _ _ _ _ new c.point-test.ensures bound ∙ at

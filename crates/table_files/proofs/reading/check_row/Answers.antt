@@ -7,13 +7,13 @@ use Rattle.table_files.proofs.reading.check_row.Goals as goal
 pub loop-point-preserved : goal.loop-point-preserved
 loop-point-preserved g c =
     let file = c.args.file.now in
-    passes file (λ x. table_time g.T.Time.kind c.args.head.now file c.args.row x ∷ []) c.loop-point.point c.loop-point.invariant c.in-ok-check-time.ensures
+    passes file (λ x. table_time g.T.Time.kind c.args.head.now file c.args.row x ∷ []) c.loop-point.point c.loop-point.invariant c.in_ok-check_time.ensures
 
-pub returns-in-err-check-time : goal.returns-in-err-check-time
-returns-in-err-check-time g c =
-    let p = err_from_is_err_and c.from-residual.result c.from-residual.ensures.1 in
+pub returns-in_err-check_time : goal.returns-in_err-check_time
+returns-in_err-check_time g c =
+    let p = err_from_is_err_and c.from_residual.result c.from_residual.ensures.1 in
     let file = c.args.file.now in
-    rw (p.1, p.2) (stops file (λ x. table_time g.T.Time.kind c.args.head.now file c.args.row x ∷ []) _ _ c.loop-point.point _ c.points-point-end.ensures c.loop-point-test.true c.loop-point.invariant c.in-err-check-time.ensures)
+    rw (p.1, p.2) (stops file (λ x. table_time g.T.Time.kind c.args.head.now file c.args.row x ∷ []) _ _ c.loop-point.point _ c.points-point-end.ensures c.loop-point-test.true c.loop-point.invariant c.in_err-check_time.ensures)
 
 pub returns : goal.returns
 returns g c =

@@ -7,5 +7,5 @@ pub returns : goal.returns
 returns g c =
     let kind = g.T.Time.kind in
     let head = c.args.head.now in
-    let at : c.time-place-place.result ≡ time_place kind (c.args.row * head.points + c.args.point) = cc in
-    time_asked kind head c.args.file.now c.args.row c.args.point _ at _ _ c.in-ok-time.ensures c.check-rule.ensures
+    let at : c.time_place-place.result ≡ time_place kind (c.args.row * head.points + c.args.point) = cc in
+    time_asked kind head c.args.file.now c.args.row c.args.point _ at _ _ c.in_ok-time.ensures c.check_rule.ensures

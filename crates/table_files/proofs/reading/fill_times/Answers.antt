@@ -1,6 +1,5 @@
-use Rattle.std.proofs.Common.{◌≡◌, ◌+◌, ◌<◌, ◌≤◌, length, sym, ap, ◌∙◌, subst, arith}
+use Rattle.std.proofs.Common.{◌+◌, ◌<◌, ◌≤◌, length, arith}
 use Rattle.times.specs.Coding.{width_of}
-use Rattle.table_files.specs.Layouts.{time_place}
 use Rattle.table_files.proofs.Timed.{place_in, no_refusal, same_time, store_more, all_stored}
 use Rattle.table_files.proofs.reading.fill_times.Goals as goal
 
@@ -9,7 +8,7 @@ unreachable-requires g c =
     let kind = g.T.Time.kind in
     let inside = place_in kind c.loop-i.i c.args.size c.loop-i-test.true in
     let room : c.time_place.result + width_of kind ≤ length c.args.file.now = omega (arith, inside, c.time_place.ensures) in
-    no_refusal kind c.args.file.now c.time_place.result room _ c.in-default.ensures
+    no_refusal kind c.args.file.now c.time_place.result room _ c.in_default.ensures
 
 pub loop-i-preserved : goal.loop-i-preserved
 loop-i-preserved g c =
