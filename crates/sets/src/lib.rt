@@ -1,18 +1,64 @@
-// Sets of points and of letters, as bits: what is in one. A change of how such a set is kept is made here.
+// Sets of points and of letters: what is in one, and the set with one more. A change of how such a set is kept is
+// made here.
 #![tactic(auto)]
 
-ghost use Rattle.std.specs.Prelude.{◌≡◌, ◌<◌, true};
-ghost use Rattle.sets.specs.Sets.{has};
+ghost use Rattle.std.specs.Prelude.{◌≡◌, ℕ, ◌^◌, ◌<◌, ◌≤◌, true};
+ghost use Rattle.sets.specs.Sets.{has, joined};
 
-pub fn has_point(set: u64, point: u8) -> bool
-    ensures { result ≡ has set point }
-{
-    point < 64 && (set >> point) % 2 == 1
+use std::marker::Model;
+
+// A set of numbers below 64. In contracts it is the number whose bit i is 1 where i is in it.
+#[derive(Clone, Copy, PartialEq, Eq, Debug)]
+pub struct Set {
+    bits: u64,
 }
 
-pub fn has_letter(set: u8, letter: u8) -> bool
-    ensures value { result ≡ has set letter }
-    ensures inside { result ≡ true → letter < 8 }
-{
-    letter < 8 && (set >> letter) % 2 == 1
+impl Model for Set {
+    ghost Value = { ℕ };
+
+    ghost view = { λ set. set.bits };
+
+    ghost invariant = { λ set. set.bits < 2 ^ 64 };
+
+    ghost inverse = { λ n. record { bits = n } };
+}
+
+impl Set {
+    pub fn empty() -> Set
+        ensures { result ≡ 0 }
+    {
+        Set { bits: 0 }
+    }
+
+    pub fn has(self, member: u8) -> bool
+        ensures value { result ≡ has self member }
+        ensures inside { result ≡ true → member < 64 }
+        ensures reached { result ≡ true → 2 ^ member ≤ self }
+    {
+        member < 64 && (self.bits >> member) % 2 == 1
+    }
+
+    // The set with one more; a number from 64 on is none of its numbers.
+    pub fn with(self, member: u8) -> Set
+        ensures inside { member < 64 → result ≡ joined self member }
+        ensures outside { 64 ≤ member → result ≡ self }
+    {
+        if member >= 64 || self.has(member) {
+            return self;
+        }
+        Set {
+            bits: self.bits + (1 << member),
+        }
+    }
+}
+
+// The set whose bits these are.
+impl From<u8> for Set {
+    ghost from_gives = { λ bits set. set ≡ bits };
+
+    fn from(bits: u8) -> Set {
+        Set {
+            bits: u64::from(bits),
+        }
+    }
 }
