@@ -80,7 +80,7 @@ fn say(rt: &HostRuntime, what: &str, answer: Result<(), PairFault>) -> anyhow::R
                 first,
                 second,
                 third,
-            } = fault.refusal();
+            } = Refusal::from(fault);
             println!(rt; "{what}: {number} ({first}, {second}, {third})")?;
         }
     }

@@ -5,7 +5,8 @@ use Rattle.refusals.specs.Answers.{Answer, given, refused, and_then, refusal_at}
 use Rattle.refusals.specs.declared.Refusal.{Refusal}
 use Rattle.fields.specs.Fields.{Field, number_at, checked, AllKept, FirstRefused, JudgedFields}
 use Rattle.fields.specs.Laid.{passing}
-use Rattle.fields.specs.Readings.{room_answer, read_file, AllRead, ReadRefused, in_header, no_room, in_body, ReadSays, RefusedExactly}
+use Rattle.refusals.specs.Rooms.{room_answer}
+use Rattle.fields.specs.Readings.{read_file, AllRead, ReadRefused, in_header, no_room, in_body, ReadSays, RefusedExactly}
 use Rattle.fields.proofs.Chains.{never, checked_judged}
 use Rattle.fields.proofs.Laid.{yes}
 

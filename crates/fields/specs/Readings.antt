@@ -1,13 +1,10 @@
 -- Reading a file into lent room: the header, then the room, then what follows the header.
-use Rattle.std.specs.Prelude.{◌≡◌, ℕ, ◌<◌, ◌≤◌, cond, List, length, nat_le, nat_lt}
+use Rattle.std.specs.Prelude.{◌≡◌, ℕ, ◌<◌, ◌≤◌, List, length, nat_le}
 use Rattle.refusals.specs.Answers.{Answer, given, refused, and_then, refusal_at}
+use Rattle.refusals.specs.Rooms.{room_answer}
 use Rattle.refusals.specs.declared.Refusal.{Refusal}
 use Rattle.fields.specs.Fields.{Field, checked, AllKept, FirstRefused}
 use Rattle.fields.specs.Laid.{passing}
-
--- 11: the room is less than the size that is needed
-abbrev pub room_answer : ℕ → ℕ → Answer (Unit {0})
-room_answer room size = cond (nat_lt room size) (refused (refusal_at 11 size)) (given tt)
 
 -- 10: a field of no bytes after which no byte follows
 abbrev pub end_field : List ℕ → ℕ → Field

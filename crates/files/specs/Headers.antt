@@ -1,10 +1,10 @@
 -- The headers of plan files and table files.
-use Rattle.std.specs.Prelude.{ℕ, ◌+◌, cond, List, [], ◌∷◌, ◌++◌, length, ◌==◌, nat_le}
+use Rattle.std.specs.Prelude.{ℕ, ◌+◌, cond, List, [], ◌∷◌, ◌++◌, length, ◌==◌}
 use Rattle.refusals.specs.Answers.{Answer, refusal_at}
 use Rattle.refusals.specs.declared.Refusal.{Refusal}
-use Rattle.times.specs.Coding.{Kind, whole_kind, fine_kind}
-use Rattle.files.specs.declared.headers.Version.{Version}
-use Rattle.files.specs.declared.headers.Version.TheVariants.{Whole, Fine}
+use Rattle.times.specs.Coding.{version_of}
+use Rattle.times.specs.declared.codings.Kind.{Kind}
+use Rattle.times.specs.declared.codings.Kind.TheVariants.{Whole, Fine}
 use Rattle.files.specs.declared.headers.PlanHeader.{PlanHeader}
 use Rattle.files.specs.declared.headers.HeaderFault.{HeaderFault}
 use Rattle.files.specs.declared.headers.HeaderFault.TheVariants as fault
@@ -18,17 +18,9 @@ header_refusal fault.Version = refusal_at 3 3
 header_refusal (fault.Count place) = refusal_at 4 place
 header_refusal (fault.Figure place) = refusal_at 5 place
 
-abbrev pub version_number : Version → ℕ
-version_number Whole = 1
-version_number Fine = 2
-
--- the kind of time that the files of a version hold
-abbrev pub kind_of : Version → Kind
-kind_of Whole = whole_kind
-kind_of Fine = fine_kind
-
-abbrev pub version_of : ℕ → Version
-version_of n = cond (n == 1) Whole Fine
+-- the kind that a number names as a version, where it names one
+abbrev pub kind_at : ℕ → Kind
+kind_at n = cond (n == 1) Whole Fine
 
 abbrev pub plan_mark : ℕ
 plan_mark = 0x44504E
@@ -36,29 +28,25 @@ plan_mark = 0x44504E
 abbrev pub table_mark : ℕ
 table_mark = 0x52554E
 
--- a file that does not begin with its mark
-abbrev pub unmarked_refusal : List ℕ → Refusal
-unmarked_refusal file = cond (nat_le 3 (length file)) (refusal_at 2 0) (refusal_at 1 (length file))
+-- a mark and a version from least to most, and then the place after them
+abbrev pub start_fields : ℕ → ℕ → ℕ → List Field
+start_fields mark least most = mark_field mark ∷ version_field least most ∷ []
 
--- mark and version, and then the place after them
+abbrev pub start : List ℕ → ℕ → ℕ → ℕ → Answer (ℕ × ℕ)
+start file mark least most = checked file (start_fields mark least most) (number_at file 3 2, 5)
+
 abbrev pub plan_starts : List Field
-plan_starts = mark_field plan_mark ∷ version_field 1 2 ∷ []
+plan_starts = start_fields plan_mark 1 2
 
--- the same for one version
-abbrev pub plan_starts_of : Version → List Field
-plan_starts_of v = mark_field plan_mark ∷ version_field (version_number v) (version_number v) ∷ []
+-- the same for one kind
+abbrev pub plan_starts_of : Kind → List Field
+plan_starts_of kind = start_fields plan_mark (version_of kind) (version_of kind)
 
-abbrev pub table_starts : Version → List Field
-table_starts v = mark_field table_mark ∷ version_field (version_number v) (version_number v) ∷ []
+abbrev pub table_starts : Kind → List Field
+table_starts kind = start_fields table_mark (version_of kind) (version_of kind)
 
-abbrev pub plan_start : List ℕ → Answer (Version × ℕ)
-plan_start file = checked file plan_starts (version_of (number_at file 3 2), 5)
-
-abbrev pub plan_start_of : List ℕ → Version → Answer ℕ
-plan_start_of file v = checked file (plan_starts_of v) 5
-
-abbrev pub table_start : List ℕ → Version → Answer ℕ
-table_start file v = checked file (table_starts v) 5
+abbrev pub plan_start : List ℕ → Answer (Kind × ℕ)
+plan_start file = checked file plan_starts (kind_at (number_at file 3 2), 5)
 
 -- the numbers of points, tests and limits, from a place on
 abbrev pub count_fields : ℕ → List Field
@@ -78,9 +66,9 @@ figures_in file at = (number_at file at 4, number_at file (at + 4) 4)
 abbrev pub plan_fields : List Field
 plan_fields = plan_starts ++ (count_fields 5 ++ figure_fields 9)
 
--- the same for a plan of one version
-abbrev pub plan_fields_of : Version → List Field
-plan_fields_of v = plan_starts_of v ++ (count_fields 5 ++ figure_fields 9)
+-- the same for a plan of one kind
+abbrev pub plan_fields_of : Kind → List Field
+plan_fields_of kind = plan_starts_of kind ++ (count_fields 5 ++ figure_fields 9)
 
 -- the plan's numbers of points and tests, from a place on
 abbrev pub same_count_fields : PlanHeader → ℕ → List Field
@@ -94,13 +82,13 @@ table_fields plan = table_starts plan.version ++ same_count_fields plan 5
 -- what stands at the fields' places
 abbrev pub header_in : List ℕ → PlanHeader
 header_in file =
-    record { version = version_of (number_at file 3 2); points = number_at file 5 1; tests = number_at file 6 1; limits = number_at file 7 2; round = number_at file 9 4; delay = number_at file 13 4 }
+    record { version = kind_at (number_at file 3 2); points = number_at file 5 1; tests = number_at file 6 1; limits = number_at file 7 2; round = number_at file 9 4; delay = number_at file 13 4 }
 
 abbrev pub plan_header : List ℕ → Answer PlanHeader
 plan_header file = checked file plan_fields (header_in file)
 
-abbrev pub plan_header_of : List ℕ → Version → Answer PlanHeader
-plan_header_of file v = checked file (plan_fields_of v) (header_in file)
+abbrev pub plan_header_of : List ℕ → Kind → Answer PlanHeader
+plan_header_of file kind = checked file (plan_fields_of kind) (header_in file)
 
 abbrev pub table_header : List ℕ → PlanHeader → Answer (Unit {0})
 table_header file plan = checked file (table_fields plan) tt

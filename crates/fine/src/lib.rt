@@ -2,20 +2,20 @@
 #![tactic(auto)]
 
 ghost use Rattle.std.specs.Prelude.{◌≡◌};
-ghost use Rattle.times.specs.Coding.{fine_kind};
-ghost use Rattle.times.specs.Moments.{earlier, minus, moment_of};
+ghost use Rattle.times.specs.declared.codings.Kind.TheVariants as kinds;
+ghost use Rattle.times.specs.Moments.{minus, moment_of};
 ghost use Rattle.times.proofs.Words.{again_twice};
 
-use times::{Coded, Ticks, Time, TimeFault, difference, signed_at};
+use times::{Coded, Kind, Ticks, Time, TimeFault, difference, signed_at};
 
-#[derive(Clone, Copy, PartialEq, Eq, Debug)]
+#[derive(Clone, Copy, PartialEq, Eq, PartialOrd, Ord, Debug)]
 pub struct Fine {
     pub ticks: i32,
     pub grains: i32,
 }
 
 // Ticks and grains, with room for the difference of any two times.
-#[derive(Clone, Copy)]
+#[derive(Clone, Copy, PartialEq, Eq, PartialOrd, Ord)]
 struct Pair {
     ticks: i64,
     grains: i64,
@@ -41,27 +41,19 @@ impl Fine {
     }
 }
 
-impl Pair {
-    fn is_earlier(self, other: Pair) -> bool
-        ensures { result ≡ earlier (moment_of self.ticks self.grains) (moment_of other.ticks other.grains) }
-    {
-        self.ticks < other.ticks || self.ticks == other.ticks && self.grains < other.grains
-    }
-}
-
 impl Time for Fine {
     ghost moment = { λ t. moment_of t.ticks t.grains };
 
-    ghost kind = { fine_kind };
+    ghost kind = { kinds.Fine };
 
     ghost recoded = { again_twice };
 
     fn is_earlier(self, other: Fine) -> bool {
-        self.pair().is_earlier(other.pair())
+        self < other
     }
 
     fn is_within(self, second: Fine, bound: Fine) -> bool {
-        !bound.pair().is_earlier(second.minus(self))
+        second.minus(self) <= bound.pair()
     }
 
     fn add_ticks(self, ticks: Ticks) -> Option<Fine> {
@@ -78,12 +70,8 @@ impl Time for Fine {
         if self.grains < 0 { ticks - 1 } else { ticks }
     }
 
-    fn version() -> u16 {
-        2
-    }
-
-    fn width() -> usize {
-        8
+    fn kind() -> Kind {
+        Kind::Fine
     }
 
     fn encode(self) -> Coded {

@@ -14,20 +14,14 @@ pub enum HeadFault {
     Test(usize),
 }
 
-impl HeadFault {
-    pub fn refusal(&self) -> Refusal
-        ensures { result ≡ head_fault self.now }
-    {
-        let (number, first) = match *self {
-            HeadFault::Counts => (4, 0),
-            HeadFault::Figures => (5, 0),
-            HeadFault::Test(i) => (7, i),
-        };
-        Refusal {
-            number,
-            first,
-            second: 0,
-            third: 0,
+impl From<HeadFault> for Refusal {
+    ghost from_gives = { λ f r. r ≡ head_fault f };
+
+    fn from(fault: HeadFault) -> Refusal {
+        match fault {
+            HeadFault::Counts => Refusal::at(4, 0),
+            HeadFault::Figures => Refusal::at(5, 0),
+            HeadFault::Test(i) => Refusal::at(7, i),
         }
     }
 }

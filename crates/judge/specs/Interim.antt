@@ -1,12 +1,12 @@
 -- What the headers of two files say together.
-use Rattle.std.specs.Prelude.{ℕ, List, [], ◌∷◌, ◌++◌, codes, decimal}
+use Rattle.std.specs.Prelude.{ℕ, List, [], ◌∷◌, ◌++◌, codes, decimal, Ok, Err, Result}
 use Rattle.refusals.specs.Answers.{Answer, given, refused}
 use Rattle.refusals.specs.declared.Refusal.{Refusal}
 use Rattle.fields.specs.Fields.{AllKept, FirstRefused}
 use Rattle.files.specs.Headers.{header_refusal, plan_fields, table_fields, header_in, plan_header, table_header}
 use Rattle.files.specs.declared.headers.PlanHeader.{PlanHeader}
-use Rattle.judge.specs.declared.interim.Headers.{Headers}
-use Rattle.judge.specs.declared.interim.Headers.TheVariants.{Agree, Plan, Table}
+use Rattle.judge.specs.declared.interim.HeadersFault.{HeadersFault}
+use Rattle.judge.specs.declared.interim.HeadersFault.TheVariants.{Plan, Table}
 
 pub data Agreement : Type 0 where
   agree : Agreement
@@ -14,10 +14,10 @@ pub data Agreement : Type 0 where
   in_table : Refusal → Agreement
 
 -- the number and place of each answer, and the file it speaks of
-abbrev pub agreement_of : Headers → Agreement
-agreement_of Agree = agree
-agreement_of (Plan fault) = in_plan (header_refusal fault)
-agreement_of (Table fault) = in_table (header_refusal fault)
+abbrev pub agreement_of : Result (Unit {0}) HeadersFault → Agreement
+agreement_of (Ok _) = agree
+agreement_of (Err (Plan fault)) = in_plan (header_refusal fault)
+agreement_of (Err (Table fault)) = in_table (header_refusal fault)
 
 abbrev pub by_table : Answer (Unit {0}) → Agreement
 by_table (given _) = agree

@@ -1,13 +1,7 @@
 -- Lines of text in lent slices.
-use Rattle.std.specs.Prelude.{◌≡◌, ℕ, ◌+◌, ◌^◌, ◌<◌, cond, List, ◌++◌, length, take, drop, decimal, nat_le, slice_index}
+use Rattle.std.specs.Prelude.{◌≡◌, ℕ, ◌^◌, ◌<◌, cond, List, ◌++◌, length, drop, decimal, nat_le, slice_index}
 use Rattle.std.specs.Str.Parse.{AllDigits, digits_value}
 use Rattle.refusals.specs.Answers.{Answer, given, refused, refusal_at}
-use Rattle.refusals.specs.declared.Refusal.{Refusal}
-use Rattle.judge.specs.declared.lines.LineFault.{LineFault}
-use Rattle.judge.specs.declared.lines.LineFault.TheVariants.{NoRoom}
-
-abbrev pub line_refusal : LineFault → Refusal
-line_refusal (NoRoom length) = refusal_at 11 length
 
 -- the length of a line, where the slice has room for it
 abbrev pub room_answer : List ℕ → List ℕ → Answer ℕ
@@ -16,11 +10,6 @@ room_answer line out = cond (nat_le (length line) (length out)) (given (length l
 -- the slice with the line at its front and nothing else changed; without room, as it was
 abbrev pub with_line : List ℕ → List ℕ → List ℕ
 with_line line out = cond (nat_le (length line) (length out)) (line ++ drop (length line) out) out
-
--- the front of a slice up to a place, and one piece more, up to the next
-pub record Extended (before : List ℕ) (at : ℕ) (piece after : List ℕ) (next : ℕ) : Type 0 where
-  pub place : next ≡ at + length piece
-  pub text : take next after ≡ take at before ++ piece
 
 -- a number as text: digits alone, with no leading zero, that read back as the number
 pub record ReadsBack (n : ℕ) : Type 0 where

@@ -3,4 +3,4 @@
 #![tactic(auto)]
 
 pub mod interim;
-pub mod lines;
+mod lines;

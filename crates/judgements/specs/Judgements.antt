@@ -2,12 +2,12 @@
 use Rattle.std.specs.Prelude.{cond, List, ℕ, eqb, length}
 use Rattle.refusals.specs.Answers.{Answer, given, refused}
 use Rattle.refusals.specs.declared.Refusal.{Refusal}
-use Rattle.times.specs.Coding.{Kind}
+use Rattle.times.specs.declared.codings.Kind.{Kind}
 use Rattle.times.specs.Moments.{Moment}
 use Rattle.rules.specs.Meanings.{Meaning, named_rule}
 use Rattle.plans.specs.Plans.{Plan, limit_at}
 use Rattle.offences.specs.Verdicts.{verdict}
-use Rattle.files.specs.Headers.{kind_of, plan_header}
+use Rattle.files.specs.Headers.{plan_header}
 use Rattle.files.specs.declared.headers.PlanHeader.{PlanHeader}
 use Rattle.plan_contents.specs.Contents.{Contents, plan_in}
 use Rattle.plan_contents.specs.Readings.{read_plan}
@@ -54,7 +54,7 @@ abbrev pub judgement_in : Kind → List ℕ → List ℕ → Judgement
 judgement_in kind plan table = by_plan kind table (read_plan kind plan most_limits)
 
 abbrev pub by_header : List ℕ → List ℕ → Answer PlanHeader → Judgement
-by_header plan table (given h) = judgement_in (kind_of h.version) plan table
+by_header plan table (given h) = judgement_in h.version plan table
 by_header plan table (refused r) = in_plan r
 
 -- the kind of time follows from the plan's version

@@ -3,7 +3,7 @@ use Rattle.std.specs.Prelude.{◌≡◌, ◌↔◌, List, ◌++◌, ℕ, ◌^◌
 use Rattle.refusals.specs.Answers.{given}
 use Rattle.refusals.specs.declared.Refusal.{Refusal}
 use Rattle.fields.specs.Fields.{Field, FirstRefused}
-use Rattle.times.specs.Coding.{Kind}
+use Rattle.times.specs.declared.codings.Kind.{Kind}
 use Rattle.times.specs.Moments.{Moment}
 use Rattle.plans.specs.Plans.{limit_at}
 use Rattle.offences.specs.Verdicts.{limit_offence, early_offence}

@@ -12,11 +12,11 @@ pub enum Offence {
     Early { first: u8, second: u8, point: u8 },
 }
 
-impl Offence {
-    pub fn refusal(&self) -> Refusal
-        ensures { result ≡ offence_refusal self.now }
-    {
-        match *self {
+impl From<Offence> for Refusal {
+    ghost from_gives = { λ f r. r ≡ offence_refusal f };
+
+    fn from(fault: Offence) -> Refusal {
+        match fault {
             Offence::Limit { row, limit } => Refusal {
                 number: 12,
                 first: usize::from(row),

@@ -6,7 +6,7 @@ use Rattle.std.proofs.lemmas.List.{get_or-drop, get_or-take, drop-drop, length-d
 use Rattle.fields.specs.Fields.{AllKept}
 use Rattle.fields.specs.Laid.{laid}
 use Rattle.fields.proofs.Laid.{length-laid, get_or-laid}
-use Rattle.times.specs.Coding.{Kind}
+use Rattle.times.specs.declared.codings.Kind.{Kind}
 use Rattle.times.specs.Moments.{Moment}
 use Rattle.time_fields.specs.Kinds.{OfKind}
 use Rattle.time_fields.proofs.Spelled.{Bytes, of_kind_at}
@@ -16,7 +16,7 @@ use Rattle.files.specs.Headers.{plan_fields_of}
 use Rattle.files.specs.declared.headers.PlanHeader.{PlanHeader}
 use Rattle.plan_records.specs.Records.{first_place, limit_in}
 use Rattle.plan_contents.specs.Contents.{Contents, IsPlan, limit_bytes, header_bytes, plan_bytes}
-use Rattle.plan_contents.specs.Readings.{version_for, header, place, body_fields, names_in, tests_in, limits_in, contents_in}
+use Rattle.plan_contents.specs.Readings.{header, place, body_fields, names_in, tests_in, limits_in, contents_in}
 use Rattle.plan_contents.proofs.Places.{limit_size, name_at, test_at, limit_at}
 use Rattle.plan_contents.proofs.Bodies.{BodyKept, body_parts, tests_place, limit_place}
 use Rattle.plan_contents.proofs.Named.{place_in}
@@ -24,7 +24,7 @@ use Rattle.plan_contents.proofs.Headed.{within, kind_is, header_spelled}
 use Rattle.plan_contents.proofs.Shown.{Shows, limit_inside, names_kept, tests_kept, limits_kept}
 use Rattle.plan_contents.proofs.Spelled.{laid_same, bytes_laid, limits_spelled}
 
-module _ (k : Kind) (file : List ℕ) (headed : AllKept file (plan_fields_of (version_for k))) (bodied : AllKept file (body_fields file)) where
+module _ (k : Kind) (file : List ℕ) (headed : AllKept file (plan_fields_of k)) (bodied : AllKept file (body_fields file)) where
   abbrev h : PlanHeader
   h = header file
 

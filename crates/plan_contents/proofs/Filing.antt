@@ -4,7 +4,7 @@ use Rattle.std.specs.List.{flat_map}
 use Rattle.std.proofs.lemmas.List.{same_lists, get_or_append_left, get_or_default, get_or-drop, drop-drop, drop_at, take_at}
 use Rattle.fields.specs.Fields.{AllKept}
 use Rattle.fields.proofs.Laid.{length-laid, get_or-laid}
-use Rattle.times.specs.Coding.{Kind}
+use Rattle.times.specs.declared.codings.Kind.{Kind}
 use Rattle.times.specs.Moments.{Moment}
 use Rattle.heads.specs.Heads.{outline}
 use Rattle.plans.specs.declared.limits.Limit.{Limit}
@@ -12,7 +12,7 @@ use Rattle.files.specs.Headers.{plan_fields_of, header_in}
 use Rattle.files.specs.declared.headers.PlanHeader.{PlanHeader}
 use Rattle.plan_records.specs.Records.{first_place, limit_in}
 use Rattle.plan_contents.specs.Contents.{Contents, contents, IsNames, IsPlan, limit_bytes, plan_bytes, plan_length}
-use Rattle.plan_contents.specs.Readings.{version_for, header, place, body_fields, names_in, tests_in, limits_in, contents_in}
+use Rattle.plan_contents.specs.Readings.{header, place, body_fields, names_in, tests_in, limits_in, contents_in}
 use Rattle.plan_contents.proofs.Places.{limit_size, name_at, test_at, limit_at}
 use Rattle.plan_contents.proofs.Bodies.{body_kept, tests_place, limit_place}
 use Rattle.plan_contents.proofs.Named.{names_end}
@@ -37,8 +37,8 @@ module _ (k : Kind) (c : Contents) (file : List ℕ) (bytes : file ≡ plan_byte
   read : HeaderOf k c h
   read = subst (λ f. HeaderOf k c (header_in f)) (sym bytes) (header_read k c body plan.head plan.limits.few)
 
-  pub headed : AllKept file (plan_fields_of (version_for k))
-  headed = subst (λ f. AllKept f (plan_fields_of (version_for k))) (sym bytes) (header_kept k c body plan.head plan.limits.few)
+  pub headed : AllKept file (plan_fields_of k)
+  headed = subst (λ f. AllKept f (plan_fields_of k)) (sym bytes) (header_kept k c body plan.head plan.limits.few)
 
   after_header : drop first_place file ≡ body
   after_header = ap (drop first_place) bytes

@@ -5,15 +5,17 @@ use Rattle.std.proofs.lemmas.Bool.{eqb-true}
 use Rattle.std.proofs.lemmas.Bool.Decides.{nat_tests}
 use Rattle.fields.specs.Fields.{number_at, between, AllKept}
 use Rattle.fields.proofs.Laid.{length-laid, kept_both}
-use Rattle.times.specs.Coding.{Kind, whole_kind, fine_kind, version_of, word_bytes}
+use Rattle.times.specs.declared.codings.Kind.{Kind}
+use Rattle.times.specs.declared.codings.Kind.TheVariants.{Whole, Fine}
+use Rattle.times.specs.Coding.{version_of, word_bytes}
 use Rattle.time_fields.proofs.Spelled.{Bytes}
 use Rattle.heads.specs.Heads.{IsHead}
 use Rattle.files.specs.Headers as headers
-use Rattle.files.specs.Headers.{plan_mark, plan_starts_of, count_fields, figure_fields, plan_fields_of, version_number, kind_of, header_in}
+use Rattle.files.specs.Headers.{plan_mark, plan_starts_of, count_fields, figure_fields, kind_at, plan_fields_of, header_in}
 use Rattle.files.specs.declared.headers.PlanHeader.{PlanHeader}
 use Rattle.plan_records.specs.Records.{kind}
 use Rattle.plan_contents.specs.Contents.{Contents, half_bytes, header_bytes}
-use Rattle.plan_contents.specs.Readings.{version_for, header, tests_in, limits_in, contents_in}
+use Rattle.plan_contents.specs.Readings.{header, tests_in, limits_in, contents_in}
 
 only : (n x : ℕ) → between n n x ≡ true → x ≡ n
 only n x h = grind (arith, nat_tests)
@@ -24,17 +26,13 @@ within least most x h = (grind (arith, nat_tests), grind (arith, nat_tests))
 inside : (least most x n : ℕ) → x ≡ n → least ≤ n → n ≤ most → between least most x ≡ true
 inside least most x n e l m = grind (arith, nat_tests)
 
-version_same : (kind : Kind) → version_number (version_for kind) ≡ version_of kind
-version_same whole_kind = refl
-version_same fine_kind = refl
-
 version_small : (kind : Kind) → version_of kind < 256
-version_small whole_kind = omega arith
-version_small fine_kind = omega arith
+version_small Whole = omega arith
+version_small Fine = omega arith
 
-version_read : (kind : Kind) (n : ℕ) → n ≡ version_of kind → kind_of (headers.version_of n) ≡ kind
-version_read whole_kind n e = rw e
-version_read fine_kind n e = rw e
+version_read : (kind : Kind) (n : ℕ) → n ≡ version_of kind → kind_at n ≡ kind
+version_read Whole n e = rw e
+version_read Fine n e = rw e
 
 -- four bytes and the number that they say
 
@@ -53,12 +51,12 @@ half_parts a b ha hb = (omega arith, omega arith)
 half_said : (n : ℕ) → (0 * 256 + n / 256) * 256 + n % 256 ≡ n
 half_said n = omega arith
 
-module _ (k : Kind) (file : List ℕ) (kept : AllKept file (plan_fields_of (version_for k))) where
+module _ (k : Kind) (file : List ℕ) (kept : AllKept file (plan_fields_of k)) where
   long : 17 ≤ length file
   long = omega (arith, kept.1.1.1.1.1.1.0.there)
 
   version : number_at file 3 2 ≡ version_of k
-  version = only (version_number (version_for k)) (number_at file 3 2) kept.1.0.kept ∙ version_same k
+  version = only (version_of k) (number_at file 3 2) kept.1.0.kept
 
   pub kind_is : kind (header file) ≡ k
   kind_is = version_read k (number_at file 3 2) version
@@ -150,10 +148,10 @@ module _ (k : Kind) (c : Contents) (rest : List ℕ) (head : IsHead c.head) (few
   abbrev here : List ℕ
   here = header_bytes k c ++ rest
 
-  starts_kept : AllKept here (plan_starts_of (version_for k))
+  starts_kept : AllKept here (plan_starts_of k)
   starts_kept =
-      let v = version_number (version_for k) in
-      (record { there = omega arith; kept = refl }, (record { there = omega arith; kept = inside v v (number_at here 3 2) v (omega (arith, version_same k)) (omega arith) (omega arith) }, tt))
+      let v = version_of k in
+      (record { there = omega arith; kept = refl }, (record { there = omega arith; kept = inside v v (number_at here 3 2) v (omega arith) (omega arith) (omega arith) }, tt))
 
   counts_kept : AllKept here (count_fields 5)
   counts_kept =
@@ -168,6 +166,6 @@ module _ (k : Kind) (c : Contents) (rest : List ℕ) (head : IsHead c.head) (few
       let delay = inside 0 1000000 (number_at here 13 4) c.head.delay header_read.delay (omega arith) head.figures.delayed in
       (record { there = omega arith; kept = round }, (record { there = omega arith; kept = delay }, tt))
 
-  pub header_kept : AllKept here (plan_fields_of (version_for k))
+  pub header_kept : AllKept here (plan_fields_of k)
   header_kept =
-      kept_both here (plan_starts_of (version_for k)) (count_fields 5 ++ figure_fields 9) starts_kept (kept_both here (count_fields 5) (figure_fields 9) counts_kept figures_kept)
+      kept_both here (plan_starts_of k) (count_fields 5 ++ figure_fields 9) starts_kept (kept_both here (count_fields 5) (figure_fields 9) counts_kept figures_kept)

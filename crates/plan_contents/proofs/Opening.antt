@@ -8,7 +8,7 @@ use Rattle.fields.specs.Laid.{laid, passing}
 use Rattle.fields.proofs.Chains.{passed, stopped, halted, judged}
 use Rattle.fields.proofs.Laid.{laid_more}
 use Rattle.files.specs.Headers.{header_in, plan_fields_of, plan_header_of}
-use Rattle.files.specs.declared.headers.Version.{Version}
+use Rattle.times.specs.declared.codings.Kind.{Kind}
 use Rattle.files.specs.declared.headers.PlanHeader.{PlanHeader}
 use Rattle.plan_records.specs.Names.{name_size}
 use Rattle.plan_records.specs.Records.{first_place, part_from, record_fields, record_place}
@@ -18,7 +18,7 @@ use Rattle.plan_contents.specs.Readings.{header, place, names_in}
 use Rattle.plan_contents.proofs.Places.{name_at}
 use Rattle.plan_contents.proofs.Steps.{passed_inside}
 
-module _ (file : List ℕ) (v : Version) where
+module _ (file : List ℕ) (v : Kind) where
   module _ {X : Type 0} (rest : Answer X) where
     abbrev whole : Answer X
     whole = and_then (passing file (plan_fields_of v)) (λ _. rest)
@@ -47,7 +47,7 @@ name_ends file x l =
     let at = ap (λ p. p + name_size file p) (sym here) in
     omega (arith, ap (place file) one, next, at)
 
-module _ (file : List ℕ) (v : Version) (r : Reader) (same : r.file.now ≡ file) (e : given r.header ≡ plan_header_of file v) where
+module _ (file : List ℕ) (v : Kind) (r : Reader) (same : r.file.now ≡ file) (e : given r.header ≡ plan_header_of file v) where
   abbrev fields : ℕ → List Field
   fields n = laid n (record_fields (header file) file)
 

@@ -1,7 +1,9 @@
 -- Which sort the record with a number is of, and where it lies.
 use Rattle.std.proofs.Common.{◌≡◌, ℕ, zero, suc, ◌+◌, ◌*◌, ◌<◌, ◌≤◌, List, refl, ap, ◌∙◌, arith}
 use Rattle.std.proofs.lemmas.Bool.{lt-ltb, le-ltb}
-use Rattle.times.specs.Coding.{Kind, width_of, whole_kind, fine_kind}
+use Rattle.times.specs.declared.codings.Kind.{Kind}
+use Rattle.times.specs.declared.codings.Kind.TheVariants.{Whole, Fine}
+use Rattle.times.specs.Coding.{width_of}
 use Rattle.files.specs.declared.headers.PlanHeader.{PlanHeader}
 use Rattle.plan_records.specs.Names.{name_size, name_place}
 use Rattle.plan_records.specs.Records.{Sort, a_name, a_test, a_limit, the_end, kind, first_place, record_count, sort_of, size_of, record_place}
@@ -11,8 +13,8 @@ abbrev pub limit_size : Kind → ℕ
 limit_size kind = 4 + width_of kind
 
 pub limit_size_more : (kind : Kind) (j : ℕ) → limit_size kind * suc j ≡ limit_size kind * j + limit_size kind
-limit_size_more whole_kind j = omega arith
-limit_size_more fine_kind j = omega arith
+limit_size_more Whole j = omega arith
+limit_size_more Fine j = omega arith
 
 module _ (h : PlanHeader) where
   pub name_sort : (r : ℕ) → r < h.points → sort_of h r ≡ a_name

@@ -5,7 +5,9 @@ use Rattle.std.specs.List.{flat_map, AllByRecursion}
 use Rattle.std.proofs.lemmas.List.Edits.{paste_none, paste-paste, paste_all}
 use Rattle.std.proofs.ByRecursion.{All-push}
 use Rattle.std.proofs.lemmas.List.{map_more, flat_map_more, length-append, length-map, length-take-le}
-use Rattle.times.specs.Coding.{Kind, whole_kind, fine_kind, version_of, width_of, word_bytes, time_bytes}
+use Rattle.times.specs.declared.codings.Kind.{Kind}
+use Rattle.times.specs.declared.codings.Kind.TheVariants.{Whole, Fine}
+use Rattle.times.specs.Coding.{version_of, width_of, word_bytes, time_bytes}
 use Rattle.times.specs.Moments.{Moment}
 use Rattle.time_fields.specs.Kinds.{OfKind}
 use Rattle.time_fields.proofs.Widths.{length-time_bytes}
@@ -16,8 +18,8 @@ use Rattle.plan_contents.proofs.Places.{limit_size, limit_size_more}
 use Rattle.plan_contents.proofs.Lengths.{length-limit_bytes, length-limits, length-plan}
 
 version_small : (kind : Kind) → version_of kind < 256
-version_small whole_kind = omega arith
-version_small fine_kind = omega arith
+version_small Whole = omega arith
+version_small Fine = omega arith
 
 -- counts as their bytes
 module _ (kind : Kind) (c : Contents) (v n points letters : ℕ) (version limits : List ℕ) where
@@ -59,8 +61,8 @@ pub limits_more : (kind : Kind) (i : ℕ) → limit_size kind * (i + 1) ≡ limi
 limits_more kind i = rw add-one (limit_size_more kind i)
 
 pub no_limits : (kind : Kind) (at : ℕ) (d : List ℕ) → d ≡ paste d at [] (limit_size kind * 0)
-no_limits whole_kind at d = paste_none d at []
-no_limits fine_kind at d = paste_none d at []
+no_limits Whole at d = paste_none d at []
+no_limits Fine at d = paste_none d at []
 
 module _ {X : Type 0} (of : X → Moment) (kind : Kind) where
   abbrev so_far : List (Limit X) → ℕ → List (Limit Moment)

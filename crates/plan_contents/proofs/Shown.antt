@@ -2,7 +2,9 @@
 use Rattle.std.proofs.Common.{◌≡◌, ℕ, ◌+◌, ◌-◌, ◌*◌, ◌^◌, ◌<◌, ◌≤◌, not, eqb, List, [], ◌∷◌, length, get_or, drop, sym, ap, ◌∙◌, subst, arith}
 use Rattle.std.proofs.lemmas.List.{get_or-drop}
 use Rattle.fields.specs.Fields.{Kept, AllKept}
-use Rattle.times.specs.Coding.{Kind, whole_kind, fine_kind, time_at}
+use Rattle.times.specs.declared.codings.Kind.{Kind}
+use Rattle.times.specs.declared.codings.Kind.TheVariants.{Whole, Fine}
+use Rattle.times.specs.Coding.{time_at}
 use Rattle.times.specs.Moments.{bound_rule}
 use Rattle.heads.specs.Heads.{Outline, outline, is_test, IsTest}
 use Rattle.plans.specs.Memory.{fitting, fits, LimitKept}
@@ -24,8 +26,8 @@ test_same o u i p h =
 
 -- a limit ends before the first one that is not there begins
 pub limit_inside : (kind : Kind) (j m : ℕ) → j < m → limit_size kind * j + limit_size kind ≤ limit_size kind * m
-limit_inside whole_kind j m l = omega arith
-limit_inside fine_kind j m l = omega arith
+limit_inside Whole j m l = omega arith
+limit_inside Fine j m l = omega arith
 
 -- what stands in the file at its places is what the contents have
 pub record Shows (h : PlanHeader) (file : List ℕ) (k : Kind) (c : Contents) : Type 0 where

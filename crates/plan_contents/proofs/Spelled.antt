@@ -4,7 +4,8 @@ use Rattle.std.specs.List.{flat_map, AllByRecursion}
 use Rattle.std.proofs.lemmas.List.{ext_get_or, get_or-drop, get_or-take, drop-drop, drop_at, flat_map_more, length-drop, length-take-le}
 use Rattle.fields.specs.Laid.{laid}
 use Rattle.fields.proofs.Laid.{length-laid, get_or-laid}
-use Rattle.times.specs.Coding.{Kind, width_of}
+use Rattle.times.specs.declared.codings.Kind.{Kind}
+use Rattle.times.specs.Coding.{width_of}
 use Rattle.times.specs.Moments.{Moment}
 use Rattle.times.proofs.Words.{four}
 use Rattle.time_fields.specs.Kinds.{OfKind}

@@ -3,7 +3,8 @@ use Rattle.std.proofs.Common.{◌≡◌, ℕ, ◌+◌, ◌*◌, ◌≤◌, List,
 use Rattle.refusals.specs.Answers.{Answer, given, refused}
 use Rattle.fields.specs.Laid.{laid}
 use Rattle.fields.proofs.Readings.{read_says}
-use Rattle.times.specs.Coding.{Kind, width_of}
+use Rattle.times.specs.declared.codings.Kind.{Kind}
+use Rattle.times.specs.Coding.{width_of}
 use Rattle.time_fields.proofs.Spelled.{Bytes}
 use Rattle.time_fields.proofs.Widths.{width_small}
 use Rattle.heads.specs.Heads.{Outline, IsHead, outline}
@@ -13,7 +14,7 @@ use Rattle.files.specs.Headers.{plan_fields_of}
 use Rattle.files.specs.declared.headers.PlanHeader.{PlanHeader}
 use Rattle.plan_records.specs.Records.{part_from, limit_in}
 use Rattle.plan_contents.specs.Contents.{Contents, contents}
-use Rattle.plan_contents.specs.Readings.{version_for, header, body_fields, names_in, limits_in, contents_in, read_plan, limit_count, PlanSays}
+use Rattle.plan_contents.specs.Readings.{header, body_fields, names_in, limits_in, contents_in, read_plan, limit_count, PlanSays}
 use Rattle.plan_contents.proofs.Bodies.{tests_place}
 use Rattle.plan_contents.proofs.Headed.{within}
 use Rattle.plan_contents.proofs.Cutting.{ends_at, tests_part, limits_laid}
@@ -26,7 +27,7 @@ module _ (kind : Kind) (file : List ℕ) (room : ℕ) where
 
   pub answer_says : (a : Answer ℕ) → a ≡ limit_count (read_plan kind file room) → PlanSays kind file room a
   answer_says a e =
-      subst (PlanSays kind file room) (sym e) (count_says (read_plan kind file room) (read_says file (plan_fields_of (version_for kind)) (body_fields file) (header file).limits room (contents_in file kind)))
+      subst (PlanSays kind file room) (sym e) (count_says (read_plan kind file room) (read_says file (plan_fields_of kind) (body_fields file) (header file).limits room (contents_in file kind)))
 
   module _ (whole : Whole kind file room) (h : PlanHeader) (there : h ≡ header file) (width count : ℕ) (wide : width ≡ width_of kind) (counted : count ≡ h.limits) where
     abbrev at : ℕ

@@ -1,4 +1,5 @@
 -- Plan files and their contents determine each other.
+use Rattle.times.specs.declared.codings.Kind.{Kind}
 use Rattle.std.proofs.Common.{◌≡◌, ℕ, ◌+◌, ◌≤◌, List, [], ◌∷◌, ◌++◌, length, take, drop, sym, ap, ◌∙◌, subst, arith}
 use Rattle.std.proofs.lemmas.List.{take_at}
 use Rattle.std.proofs.lemmas.Bool.{le-leb, le-ltb}
@@ -8,14 +9,13 @@ use Rattle.fields.specs.Laid.{passing}
 use Rattle.fields.specs.Readings.{AllRead, end_field}
 use Rattle.fields.proofs.Laid.{yes, length-laid, kept_both, kept_each}
 use Rattle.fields.proofs.Readings.{kept_checked, read_says, read_is}
-use Rattle.times.specs.Coding.{Kind}
 use Rattle.time_fields.proofs.Spelled.{Bytes}
 use Rattle.plans.proofs.Memories.{none_from_limits}
 use Rattle.files.specs.Headers.{plan_fields_of}
 use Rattle.plan_records.specs.Names.{name_fields, name_place, names_fields, run_fields}
 use Rattle.plan_records.specs.Records.{record_count, limit_in}
 use Rattle.plan_contents.specs.Contents.{Contents, plan_in, IsNames, IsPlan, plan_bytes, plan_length}
-use Rattle.plan_contents.specs.Readings.{version_for, header, place, body_fields, contents_in, read_plan, PlanSays}
+use Rattle.plan_contents.specs.Readings.{header, place, body_fields, contents_in, read_plan, PlanSays}
 use Rattle.plan_contents.specs.Writings.{write_plan, left_by}
 use Rattle.plan_contents.specs.Trips.{IsFileOf, Rewritten, ReadExactly, WritesBack}
 use Rattle.plan_contents.proofs.Places.{end_at}
@@ -39,14 +39,14 @@ plan_written kind c room plan l =
 module _ (kind : Kind) (file : List ℕ) (room : ℕ) where
   -- every field is kept, and there is room for the limits
   abbrev pub Whole : Type 0
-  Whole = AllRead file (plan_fields_of (version_for kind)) (body_fields file) (header file).limits room
+  Whole = AllRead file (plan_fields_of kind) (body_fields file) (header file).limits room
 
   pub whole_from : (c : Contents) → read_plan kind file room ≡ given c → Whole
   whole_from c e =
-      subst (PlanSays kind file room) e (read_says file (plan_fields_of (version_for kind)) (body_fields file) (header file).limits room (contents_in file kind))
+      subst (PlanSays kind file room) e (read_says file (plan_fields_of kind) (body_fields file) (header file).limits room (contents_in file kind))
 
   pub read_whole : Whole → read_plan kind file room ≡ given (contents_in file kind)
-  read_whole = read_is file (plan_fields_of (version_for kind)) (body_fields file) (header file).limits room (contents_in file kind)
+  read_whole = read_is file (plan_fields_of kind) (body_fields file) (header file).limits room (contents_in file kind)
 
   pub contents_kept : Bytes file → Whole → IsPlan kind (contents_in file kind)
   contents_kept small h = is_plan kind file h.header_kept h.body_kept small

@@ -6,11 +6,11 @@ use Rattle.refusals.specs.Answers.{Answer, given, refused, and_then, unless, ref
 use Rattle.refusals.specs.declared.Refusal.{Refusal}
 use Rattle.fields.specs.Fields.{number_at, AllKept, JudgedFields}
 use Rattle.fields.specs.Laid.{passing}
-use Rattle.fields.specs.Readings.{room_answer}
+use Rattle.refusals.specs.Rooms.{room_answer}
 use Rattle.fields.proofs.Chains.{checked_judged}
 use Rattle.fields.proofs.Laid.{yes, kept_left, kept_right, kept_at}
 use Rattle.fields.proofs.Readings.{kept_checked, first_checked}
-use Rattle.times.specs.Coding.{Kind}
+use Rattle.times.specs.declared.codings.Kind.{Kind}
 use Rattle.times.specs.Moments.{Moment}
 use Rattle.time_fields.specs.Kinds.{OfKind}
 use Rattle.heads.specs.Heads.{IsHead}

@@ -5,23 +5,16 @@ use Rattle.refusals.specs.declared.Refusal.{Refusal}
 use Rattle.fields.specs.Fields.{Field}
 use Rattle.fields.specs.Laid.{laid}
 use Rattle.fields.specs.Readings.{end_field, read_file, ReadSays, RefusedExactly}
-use Rattle.times.specs.Coding.{Kind, whole_kind, fine_kind}
+use Rattle.times.specs.declared.codings.Kind.{Kind}
 use Rattle.times.specs.Moments.{Moment}
 use Rattle.heads.specs.Heads.{outline, outline_of}
 use Rattle.plans.specs.Views.{limit_of}
 use Rattle.heads.specs.declared.Head.{Head}
 use Rattle.plans.specs.declared.limits.Limit.{Limit}
 use Rattle.files.specs.Headers.{header_in, plan_fields_of}
-use Rattle.files.specs.declared.headers.Version.{Version}
-use Rattle.files.specs.declared.headers.Version.TheVariants.{Whole, Fine}
 use Rattle.files.specs.declared.headers.PlanHeader.{PlanHeader}
 use Rattle.plan_records.specs.Records.{first_place, part_from, record_count, record_place, record_fields, limit_in}
 use Rattle.plan_contents.specs.Contents.{Contents, contents}
-
--- the version of the files that hold times of a kind
-abbrev pub version_for : Kind → Version
-version_for whole_kind = Whole
-version_for fine_kind = Fine
 
 module _ (file : List ℕ) where
   abbrev pub header : PlanHeader
@@ -53,14 +46,14 @@ module _ (kind : Kind) (file : List ℕ) (room : ℕ) where
   -- the header; then the room for its limits; then the records and the end
   abbrev pub read_plan : Answer Contents
   read_plan =
-      read_file file (plan_fields_of (version_for kind)) (body_fields file) (header file).limits room (contents_in file kind)
+      read_file file (plan_fields_of kind) (body_fields file) (header file).limits room (contents_in file kind)
 
   abbrev pub PlanSays : {X : Type 0} → Answer X → Type 0
-  PlanSays a = ReadSays file (plan_fields_of (version_for kind)) (body_fields file) (header file).limits room a
+  PlanSays a = ReadSays file (plan_fields_of kind) (body_fields file) (header file).limits room a
 
   abbrev pub RefusesExactly : Type 0
   RefusesExactly =
-      (r : Refusal) → RefusedExactly file (plan_fields_of (version_for kind)) (body_fields file) (header file).limits room read_plan r
+      (r : Refusal) → RefusedExactly file (plan_fields_of kind) (body_fields file) (header file).limits room read_plan r
 
 -- how many limits there are
 abbrev pub limit_count : Answer Contents → Answer ℕ

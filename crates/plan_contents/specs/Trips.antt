@@ -1,7 +1,7 @@
 -- Plan files and their contents determine each other.
+use Rattle.times.specs.declared.codings.Kind.{Kind}
 use Rattle.std.specs.Prelude.{◌≡◌, ℕ, ◌≤◌, List, ◌++◌, length, take, drop}
 use Rattle.refusals.specs.Answers.{Answer, given, refused}
-use Rattle.times.specs.Coding.{Kind}
 use Rattle.plan_contents.specs.Contents.{Contents, IsPlan, plan_bytes}
 use Rattle.plan_contents.specs.Readings.{read_plan}
 use Rattle.plan_contents.specs.Writings.{write_plan, written}

@@ -1,11 +1,11 @@
 -- What writing a plan file gives.
+use Rattle.times.specs.declared.codings.Kind.{Kind}
 use Rattle.std.specs.Prelude.{◌≡◌, ℕ, ◌<◌, ◌≤◌, List, ◌++◌, length, drop}
 use Rattle.refusals.specs.Answers.{Answer, given, refused, and_then, unless, refusal_at}
 use Rattle.refusals.specs.declared.Refusal.{Refusal}
 use Rattle.fields.specs.Fields.{AllKept, FirstRefused}
 use Rattle.fields.specs.Laid.{passing}
-use Rattle.fields.specs.Readings.{room_answer}
-use Rattle.times.specs.Coding.{Kind}
+use Rattle.refusals.specs.Rooms.{room_answer}
 use Rattle.plans.specs.Memory.{many_refusal, limits_refusal, LimitsKept, LimitsRefused}
 use Rattle.refusals.specs.Searches.{or_else}
 use Rattle.plan_records.specs.Names.{run_fields}

@@ -3,7 +3,7 @@ ghost use Rattle.std.specs.Prelude.{◌≡◌, ◌≤◌};
 ghost use Rattle.refusals.specs.Answers.{answer_of};
 ghost use Rattle.fields.specs.Fields.{checked};
 ghost use Rattle.fields.specs.Laid.{laid, passing};
-ghost use Rattle.fields.specs.Readings.{room_answer};
+ghost use Rattle.refusals.specs.Rooms.{room_answer};
 ghost use Rattle.plan_records.specs.Faults.{record_refusal};
 ghost use Rattle.plan_records.specs.Readers.{stood};
 ghost use Rattle.plan_records.specs.Records.{first_place, record_count, record_fields};
@@ -12,7 +12,7 @@ ghost use Rattle.plan_reader.specs.Checks.{Checked, all_fields};
 ghost use Rattle.plan_reader.specs.Faults.{plan_refusal};
 
 use crate::faults::PlanFault;
-use files::headers::{PlanHeader, version_of};
+use files::headers::PlanHeader;
 use plan_records::{Reader, RecordFault};
 use times::Time;
 
@@ -21,7 +21,7 @@ pub(crate) fn check_file<T: Time>(file: &[u8], room: usize) -> Result<PlanHeader
     ensures answer { answer_of (λ h. h.limits) plan_refusal result ≡ limit_count (read_plan T.Time.kind file.now room) }
     ensures known { Checked T.Time.kind file.now room result }
 {
-    let reader = Reader::open(file, version_of::<T>())?;
+    let reader = Reader::open(file, T::kind())?;
     let header = reader.header();
     check_room(room, usize::from(header.limits))?;
     check_records(reader, &header)?;

@@ -5,29 +5,24 @@ ghost use Rattle.plan_reader.specs.declared.faults.PlanFault.TheVariants.{InHead
 
 use files::headers::HeaderFault;
 use plan_records::RecordFault;
-use refusals::Refusal;
+use refusals::{NoRoom, Refusal};
 
 #[derive(Clone, Copy, PartialEq, Eq, Debug)]
 pub enum PlanFault {
     InHeader(HeaderFault),
     // the array is shorter than this number of limits
-    NoRoom(usize),
+    NoRoom(NoRoom),
     InRecord(RecordFault),
 }
 
-impl PlanFault {
-    pub fn refusal(&self) -> Refusal
-        ensures { result ≡ plan_refusal self.now }
-    {
-        match *self {
-            PlanFault::InHeader(fault) => fault.refusal(),
-            PlanFault::InRecord(fault) => fault.refusal(),
-            PlanFault::NoRoom(size) => Refusal {
-                number: 11,
-                first: size,
-                second: 0,
-                third: 0,
-            },
+impl From<PlanFault> for Refusal {
+    ghost from_gives = { λ f r. r ≡ plan_refusal f };
+
+    fn from(fault: PlanFault) -> Refusal {
+        match fault {
+            PlanFault::InHeader(fault) => Refusal::from(fault),
+            PlanFault::InRecord(fault) => Refusal::from(fault),
+            PlanFault::NoRoom(fault) => Refusal::from(fault),
         }
     }
 }
@@ -46,5 +41,13 @@ impl From<RecordFault> for PlanFault {
 
     fn from(fault: RecordFault) -> PlanFault {
         PlanFault::InRecord(fault)
+    }
+}
+
+impl From<NoRoom> for PlanFault {
+    ghost from_gives = { λ f r. r ≡ PlanFault.NoRoom f };
+
+    fn from(fault: NoRoom) -> PlanFault {
+        PlanFault::NoRoom(fault)
     }
 }

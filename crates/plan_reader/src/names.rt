@@ -11,24 +11,24 @@ ghost use Rattle.plan_reader.specs.Faults.{plan_refusal};
 
 use crate::checks::pass;
 use crate::faults::PlanFault;
-use files::headers::Version;
 use plan_records::{Reader, RecordFault};
+use times::Kind;
 
 // The run of names of a plan file, as its part of the file.
-pub fn read_names(file: &[u8], version: Version) -> Result<&[u8], PlanFault>
-    ensures { answer_of (λ x. x.now) plan_refusal result ≡ names_answer file.now version }
+pub fn read_names(file: &[u8], kind: Kind) -> Result<&[u8], PlanFault>
+    ensures { answer_of (λ x. x.now) plan_refusal result ≡ names_answer file.now kind }
 {
-    let reader = Reader::open(file, version)?;
+    let reader = Reader::open(file, kind)?;
     let points = usize::from(reader.header().points);
     let end = place_after(reader, points)?;
     Ok(part(file, 17, end))
 }
 
 // The name of a point, without its length byte, or none where the plan has no such point.
-pub fn read_name(file: &[u8], version: Version, point: u8) -> Result<Option<&[u8]>, PlanFault>
-    ensures { answer_of (option_map (λ x. x.now)) plan_refusal result ≡ name_answer file.now version point }
+pub fn read_name(file: &[u8], kind: Kind, point: u8) -> Result<Option<&[u8]>, PlanFault>
+    ensures { answer_of (option_map (λ x. x.now)) plan_refusal result ≡ name_answer file.now kind point }
 {
-    let reader = Reader::open(file, version)?;
+    let reader = Reader::open(file, kind)?;
     if point >= reader.header().points {
         return Ok(None);
     }

@@ -2,12 +2,12 @@
 use Rattle.std.specs.Prelude.{ℕ, zero, suc, ◌+◌, ◌-◌, ◌^◌, cond, List, [], ◌∷◌, take, drop, Some, None, Option, nat_lt, slice_index}
 use Rattle.fields.specs.Fields.{Field}
 use Rattle.fields.specs.Readings.{end_field}
-use Rattle.times.specs.Coding.{Kind, width_of, time_at}
+use Rattle.times.specs.declared.codings.Kind.{Kind}
+use Rattle.times.specs.Coding.{width_of, time_at}
 use Rattle.times.specs.Moments.{Moment, bound_rule}
 use Rattle.heads.specs.Heads.{outline, is_test}
 use Rattle.plans.specs.Memory.{fitting}
 use Rattle.plans.specs.declared.limits.Limit.{Limit}
-use Rattle.files.specs.Headers.{kind_of}
 use Rattle.files.specs.declared.headers.PlanHeader.{PlanHeader}
 use Rattle.plan_records.specs.Names.{name_size, name_fields}
 
@@ -38,7 +38,7 @@ limit_in kind file at =
 
 module _ (header : PlanHeader) where
   abbrev pub kind : Kind
-  kind = kind_of header.version
+  kind = header.version
 
   -- the names come first, then the tests, then the limits
   abbrev pub record_count : ℕ

@@ -4,32 +4,21 @@ ghost use Rattle.refusals.specs.Answers.{answer_of};
 ghost use Rattle.fields.specs.Laid.{passing};
 ghost use Rattle.times.specs.Coding.{time_at, time_refusal, width_of};
 ghost use Rattle.times.specs.Moments.{bound_rule};
-ghost use Rattle.files.specs.Headers.{kind_of};
 ghost use Rattle.plan_records.specs.Records.{bound_field};
 
-use files::headers::{PlanHeader, Version};
+use files::headers::PlanHeader;
 use fine::Fine;
 use time_rules::is_bound;
-use times::{Time, TimeFault};
+use times::{Kind, Time, TimeFault};
 use whole::Whole;
-
-// How many bytes a time takes in a file of the version.
-pub(crate) fn width_in(version: Version) -> usize
-    ensures { result ≡ width_of (kind_of version) }
-{
-    match version {
-        Version::Whole => Whole::width(),
-        Version::Fine => Fine::width(),
-    }
-}
 
 // Whether the bound at a place is there and keeps its rule.
 pub(crate) fn check_bound(file: &[u8], header: &PlanHeader, at: usize) -> Result<(), TimeFault>
     ensures { answer_of (λ u. u) time_refusal result ≡ passing file.now (bound_field header.now file.now at ∷ []) }
 {
     match header.version {
-        Version::Whole => check_bound_of::<Whole>(file, at),
-        Version::Fine => check_bound_of::<Fine>(file, at),
+        Kind::Whole => check_bound_of::<Whole>(file, at),
+        Kind::Fine => check_bound_of::<Fine>(file, at),
     }
 }
 

@@ -21,23 +21,17 @@ pub enum RecordFault {
     Trailing(usize),
 }
 
-impl RecordFault {
-    pub fn refusal(&self) -> Refusal
-        ensures { result ≡ record_refusal self.now }
-    {
-        let (number, first) = match *self {
-            RecordFault::InBound(fault) => return fault.refusal(),
-            RecordFault::Ended(length) => (1, length),
-            RecordFault::Name(place) => (6, place),
-            RecordFault::Test(place) => (7, place),
-            RecordFault::Limit(place) => (8, place),
-            RecordFault::Trailing(place) => (10, place),
-        };
-        Refusal {
-            number,
-            first,
-            second: 0,
-            third: 0,
+impl From<RecordFault> for Refusal {
+    ghost from_gives = { λ f r. r ≡ record_refusal f };
+
+    fn from(fault: RecordFault) -> Refusal {
+        match fault {
+            RecordFault::InBound(fault) => Refusal::from(fault),
+            RecordFault::Ended(length) => Refusal::at(1, length),
+            RecordFault::Name(place) => Refusal::at(6, place),
+            RecordFault::Test(place) => Refusal::at(7, place),
+            RecordFault::Limit(place) => Refusal::at(8, place),
+            RecordFault::Trailing(place) => Refusal::at(10, place),
         }
     }
 }

@@ -8,7 +8,8 @@ ghost use Rattle.plan_records.specs.Readers.{Opened, after, next_answer, opened_
 
 use crate::faults::RecordFault;
 use crate::sizes::{Sort, record_size, sort_of};
-use files::headers::{HeaderFault, PlanHeader, Version, read_plan_header_of};
+use files::headers::{HeaderFault, PlanHeader, read_plan_header_of};
+use times::Kind;
 
 // A plan file, what its header says, how many records have been read, and the place of the next.
 #[derive(Clone, Copy)]
@@ -31,12 +32,12 @@ pub enum Record<'a> {
 }
 
 impl<'a> Reader<'a> {
-    // A reader at the first record of a plan file of this version, or the first refusal of its header.
-    pub fn open(file: &'a [u8], version: Version) -> Result<Reader<'a>, HeaderFault>
-        ensures answer { answer_of opened_header header_refusal result ≡ plan_header_of file.now version }
+    // A reader at the first record of a plan file of this kind, or the first refusal of its header.
+    pub fn open(file: &'a [u8], kind: Kind) -> Result<Reader<'a>, HeaderFault>
+        ensures answer { answer_of opened_header header_refusal result ≡ plan_header_of file.now kind }
         ensures opened { Opened file.now result }
     {
-        let header = read_plan_header_of(file, version)?;
+        let header = read_plan_header_of(file, kind)?;
         Ok(Reader {
             file,
             header,

@@ -8,7 +8,7 @@ ghost use Rattle.plan_records.specs.Names.{name_fields, name_size};
 ghost use Rattle.plan_records.specs.Records.{a_limit, a_test, fields_of, first_place, fitting_field, size_of, sort_of};
 ghost use Rattle.plan_records.specs.Sorts.{meant};
 
-use crate::bounds::{check_bound, width_in};
+use crate::bounds::check_bound;
 use crate::faults::RecordFault;
 use crate::names::{check_end, name_size_at};
 use files::headers::PlanHeader;
@@ -94,7 +94,7 @@ fn limit_size(file: &[u8], header: &PlanHeader, at: usize) -> Result<usize, Reco
 {
     check_fitting(file, header, at)?;
     check_bound(file, header, at + 4)?;
-    Ok(4 + width_in(header.version))
+    Ok(4 + header.version.width())
 }
 
 // Whether the points and letters of the limit at a place are those of the plan.

@@ -5,7 +5,7 @@ ghost use Rattle.plan_writer.specs.declared.faults.PlanWriteFault.TheVariants.{I
 
 use plan_records::RecordFault;
 use plans::MemoryFault;
-use refusals::Refusal;
+use refusals::{NoRoom, Refusal};
 
 #[derive(Clone, Copy, PartialEq, Eq, Debug)]
 pub enum PlanWriteFault {
@@ -14,22 +14,17 @@ pub enum PlanWriteFault {
     // a place in the run of names
     InNames(RecordFault),
     // the array is shorter than the file, whose length this is
-    NoRoom(usize),
+    NoRoom(NoRoom),
 }
 
-impl PlanWriteFault {
-    pub fn refusal(&self) -> Refusal
-        ensures { result ≡ write_fault self.now }
-    {
-        match *self {
-            PlanWriteFault::InMemory(fault) => fault.refusal(),
-            PlanWriteFault::InNames(fault) => fault.refusal(),
-            PlanWriteFault::NoRoom(length) => Refusal {
-                number: 11,
-                first: length,
-                second: 0,
-                third: 0,
-            },
+impl From<PlanWriteFault> for Refusal {
+    ghost from_gives = { λ f r. r ≡ write_fault f };
+
+    fn from(fault: PlanWriteFault) -> Refusal {
+        match fault {
+            PlanWriteFault::InMemory(fault) => Refusal::from(fault),
+            PlanWriteFault::InNames(fault) => Refusal::from(fault),
+            PlanWriteFault::NoRoom(fault) => Refusal::from(fault),
         }
     }
 }
@@ -47,5 +42,13 @@ impl From<RecordFault> for PlanWriteFault {
 
     fn from(fault: RecordFault) -> PlanWriteFault {
         PlanWriteFault::InNames(fault)
+    }
+}
+
+impl From<NoRoom> for PlanWriteFault {
+    ghost from_gives = { λ f r. r ≡ PlanWriteFault.NoRoom f };
+
+    fn from(fault: NoRoom) -> PlanWriteFault {
+        PlanWriteFault::NoRoom(fault)
     }
 }

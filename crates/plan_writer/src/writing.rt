@@ -3,7 +3,6 @@ ghost use Rattle.std.specs.Prelude.{◌≡◌, ◌^◌, ◌<◌, ◌≤◌, ◌+
 ghost use Rattle.std.specs.List.{AllByRecursion};
 ghost use Rattle.refusals.specs.Answers.{answer_of};
 ghost use Rattle.refusals.specs.declared.Refusal.{Refusal};
-ghost use Rattle.fields.specs.Readings.{room_answer};
 ghost use Rattle.time_fields.specs.Kinds.{OfKind};
 ghost use Rattle.plan_contents.specs.Contents.{plan_bytes, plan_length};
 ghost use Rattle.plan_contents.specs.Trips.{ReadsBack};
@@ -16,6 +15,7 @@ use crate::putting::{put_header, put_limits, put_tests};
 use heads::Head;
 use plan_records::check_names;
 use plans::{Limit, check_limits};
+use refusals::check_room;
 use times::Time;
 
 // Writes the plan file of a head, limits and names to the front of an array, and says how long it is.
@@ -58,16 +58,6 @@ fn plan_length<T: Time>(head: &Head, limits: &[Limit<T>], names: &[u8]) -> usize
     ensures { result ≡ plan_length T.Time.kind (contents_of T.Time.moment head.now limits.now names.now) }
 {
     17 + names.len() + usize::from(head.letters()) + (4 + T::width()) * limits.len()
-}
-
-// Whether an array has room for a file of this length.
-fn check_room(room: usize, length: usize) -> Result<(), PlanWriteFault>
-    ensures { answer_of (λ u. u) write_fault result ≡ room_answer room length }
-{
-    if room < length {
-        return Err(PlanWriteFault::NoRoom(length));
-    }
-    Ok(())
 }
 
 // The header, the names as they are, the tests and the limits.

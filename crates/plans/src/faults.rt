@@ -18,22 +18,16 @@ pub enum MemoryFault {
     Time(usize),
 }
 
-impl MemoryFault {
-    pub fn refusal(&self) -> Refusal
-        ensures { result ≡ memory_fault self.now }
-    {
-        let (number, first) = match *self {
-            MemoryFault::ManyLimits => (4, 0),
-            MemoryFault::CountOfTimes => (4, 1),
-            MemoryFault::Limit(j) => (8, j),
-            MemoryFault::Bound(j) => (9, j),
-            MemoryFault::Time(i) => (9, i),
-        };
-        Refusal {
-            number,
-            first,
-            second: 0,
-            third: 0,
+impl From<MemoryFault> for Refusal {
+    ghost from_gives = { λ f r. r ≡ memory_fault f };
+
+    fn from(fault: MemoryFault) -> Refusal {
+        match fault {
+            MemoryFault::ManyLimits => Refusal::at(4, 0),
+            MemoryFault::CountOfTimes => Refusal::at(4, 1),
+            MemoryFault::Limit(j) => Refusal::at(8, j),
+            MemoryFault::Bound(j) => Refusal::at(9, j),
+            MemoryFault::Time(i) => Refusal::at(9, i),
         }
     }
 }

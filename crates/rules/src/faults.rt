@@ -12,19 +12,12 @@ pub enum RuleFault {
     BadDelay,
 }
 
-impl RuleFault {
-    pub fn refusal(&self) -> Refusal
-        ensures { result ≡ rule_refusal self.now }
-    {
-        let number = match *self {
-            RuleFault::BadRound => 5,
-            RuleFault::BadDelay => 5,
-        };
-        Refusal {
-            number,
-            first: 0,
-            second: 0,
-            third: 0,
+impl From<RuleFault> for Refusal {
+    ghost from_gives = { λ f r. r ≡ rule_refusal f };
+
+    fn from(fault: RuleFault) -> Refusal {
+        match fault {
+            RuleFault::BadRound | RuleFault::BadDelay => Refusal::at(5, 0),
         }
     }
 }

@@ -18,21 +18,15 @@ pub enum ReleaseFault {
     Waits(u8),
 }
 
-impl ReleaseFault {
-    pub fn refusal(&self) -> Refusal
-        ensures { result ≡ release_refusal self.now }
-    {
-        let (number, first) = match *self {
-            ReleaseFault::InMemory(fault) => return fault.refusal(),
-            ReleaseFault::OtherPlan => (14, 0),
-            ReleaseFault::NoneLeft => (15, 0),
-            ReleaseFault::Waits(letter) => (16, usize::from(letter)),
-        };
-        Refusal {
-            number,
-            first,
-            second: 0,
-            third: 0,
+impl From<ReleaseFault> for Refusal {
+    ghost from_gives = { λ f r. r ≡ release_refusal f };
+
+    fn from(fault: ReleaseFault) -> Refusal {
+        match fault {
+            ReleaseFault::InMemory(fault) => Refusal::from(fault),
+            ReleaseFault::OtherPlan => Refusal::at(14, 0),
+            ReleaseFault::NoneLeft => Refusal::at(15, 0),
+            ReleaseFault::Waits(letter) => Refusal::at(16, usize::from(letter)),
         }
     }
 }
@@ -50,15 +44,11 @@ pub struct HandedBack {
     pub token: Token,
 }
 
-impl HandedBack {
-    pub fn refusal(&self) -> Refusal
-        ensures { result ≡ tell_refusal self.now }
-    {
-        Refusal {
-            number: 17,
-            first: 0,
-            second: 0,
-            third: 0,
-        }
+// A token that is handed back is to be used again, so its refusal is made without it.
+impl From<&HandedBack> for Refusal {
+    ghost from_gives = { λ f r. r ≡ tell_refusal f.now };
+
+    fn from(_fault: &HandedBack) -> Refusal {
+        Refusal::at(17, 0)
     }
 }

@@ -84,8 +84,8 @@ fn faults(rt: HostRuntime) {
         second: 0,
         third: 0,
     };
-    assert_eq!(rt; TimeFault::Ended(10).refusal(), ended);
-    assert_eq!(rt; TimeFault::OutOfRule(34).refusal(), broken);
+    assert_eq!(rt; Refusal::from(TimeFault::Ended(10)), ended);
+    assert_eq!(rt; Refusal::from(TimeFault::OutOfRule(34)), broken);
 }
 
 #[test]

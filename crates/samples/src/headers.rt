@@ -1,10 +1,10 @@
 // Every refusal of a header, at every place, and the lines on them.
-use files::headers::{HeaderFault, PlanHeader, Version, read_plan_header};
-use judge::interim::{Headers, judge_headers, write_headers_line};
-use judge::lines::LineFault;
-use refusals::Refusal;
+use files::headers::{HeaderFault, PlanHeader, read_plan_header};
+use judge::interim::{HeadersFault, judge_headers, write_headers_line};
+use refusals::{NoRoom, Refusal};
 use std::process::Abort;
 use std::test::Fail;
+use times::Kind;
 
 // Version 1, three points, one test, two limits, r = 5, d = 3, and a byte of what follows.
 const PLAN: [u8; 18] = [
@@ -14,11 +14,11 @@ const PLAN: [u8; 18] = [
 const TABLE: [u8; 8] = [0x52, 0x55, 0x4E, 0, 1, 3, 1, 0];
 
 fn plan_says(rt: &impl Abort, plan: &[u8], fault: HeaderFault) {
-    assert_eq!(rt; judge_headers(plan, &TABLE), Headers::Plan(fault));
+    assert_eq!(rt; judge_headers(plan, &TABLE), Err(HeadersFault::Plan(fault)));
 }
 
 fn table_says(rt: &impl Abort, table: &[u8], fault: HeaderFault) {
-    assert_eq!(rt; judge_headers(&PLAN, table), Headers::Table(fault));
+    assert_eq!(rt; judge_headers(&PLAN, table), Err(HeadersFault::Table(fault)));
 }
 
 fn line_is(rt: &impl Abort, plan: &[u8], table: &[u8], line: &[u8]) -> Result<(), Fail> {
@@ -35,9 +35,9 @@ fn line_is(rt: &impl Abort, plan: &[u8], table: &[u8], line: &[u8]) -> Result<()
 
 #[test]
 fn headers_that_agree(rt: HostRuntime) -> Result<(), Fail> {
-    assert_eq!(rt; judge_headers(&PLAN, &TABLE), Headers::Agree);
+    assert_eq!(rt; judge_headers(&PLAN, &TABLE), Ok(()));
     let header = PlanHeader {
-        version: Version::Whole,
+        version: Kind::Whole,
         points: 3,
         tests: 1,
         limits: 2,
@@ -53,7 +53,7 @@ fn a_plan_cut_at_every_byte(rt: HostRuntime) {
     for length in 0..17 {
         plan_says(&rt, &PLAN[0..length], HeaderFault::Ended(length));
     }
-    assert_eq!(rt; judge_headers(&PLAN[0..17], &TABLE), Headers::Agree);
+    assert_eq!(rt; judge_headers(&PLAN[0..17], &TABLE), Ok(()));
     plan_says(&rt, &[1, 2], HeaderFault::Ended(2));
     plan_says(&rt, &[1, 2, 3], HeaderFault::Mark);
     plan_says(&rt, &[1, 2, 3, 0], HeaderFault::Mark);
@@ -64,7 +64,7 @@ fn a_table_cut_at_every_byte(rt: HostRuntime) {
     for length in 0..7 {
         table_says(&rt, &TABLE[0..length], HeaderFault::Ended(length));
     }
-    assert_eq!(rt; judge_headers(&PLAN, &TABLE[0..7]), Headers::Agree);
+    assert_eq!(rt; judge_headers(&PLAN, &TABLE[0..7]), Ok(()));
     table_says(&rt, &[1, 2], HeaderFault::Ended(2));
     table_says(&rt, &[1, 2, 3, 0], HeaderFault::Mark);
 }
@@ -132,7 +132,7 @@ fn bounds_that_are_just_kept(rt: HostRuntime) {
         0x44, 0x50, 0x4E, 0, 2, 48, 6, 1, 0, 0x00, 0x0F, 0x42, 0x40, 0x00, 0x0F, 0x42, 0x40,
     ];
     let beside = [0x52, 0x55, 0x4E, 0, 2, 48, 6];
-    assert_eq!(rt; judge_headers(&most, &beside), Headers::Agree);
+    assert_eq!(rt; judge_headers(&most, &beside), Ok(()));
     let mut over = most;
     over[8] = 1;
     plan_says(&rt, &over, HeaderFault::Count(7));
@@ -177,7 +177,7 @@ fn lines_of_refusals(rt: HostRuntime) -> Result<(), Fail> {
 fn a_line_without_room(rt: HostRuntime) {
     let mut out = [0xEE; 13];
     let answer = write_headers_line(&PLAN, &TABLE, &mut out);
-    assert_eq!(rt; answer, Err(LineFault::NoRoom(14)));
+    assert_eq!(rt; answer, Err(NoRoom(14)));
     assert!(rt; out == [0xEE; 13]);
     let refusal = Refusal {
         number: 11,
@@ -185,5 +185,5 @@ fn a_line_without_room(rt: HostRuntime) {
         second: 0,
         third: 0,
     };
-    assert_eq!(rt; LineFault::NoRoom(14).refusal(), refusal);
+    assert_eq!(rt; Refusal::from(NoRoom(14)), refusal);
 }

@@ -119,6 +119,6 @@ fn parameters(rt: HostRuntime) {
         second: 0,
         third: 0,
     };
-    assert_eq!(rt; RuleFault::BadRound.refusal(), bad);
-    assert_eq!(rt; RuleFault::BadDelay.refusal(), bad);
+    assert_eq!(rt; Refusal::from(RuleFault::BadRound), bad);
+    assert_eq!(rt; Refusal::from(RuleFault::BadDelay), bad);
 }

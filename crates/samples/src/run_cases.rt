@@ -55,7 +55,7 @@ fn release(run: &mut Run, pair: &Pair<Whole>, rule: &Delay<BaseRule>) -> (Said, 
             None => (step(point, at.ticks, false), None),
         },
         Err(fault) => {
-            let refusal = fault.refusal();
+            let refusal = Refusal::from(fault);
             (refused(refusal.number, refusal.first), None)
         }
     }
@@ -238,7 +238,7 @@ fn other_plans(rt: HostRuntime) -> Result<(), Fail> {
     match Run::open(9, &early, &rule) {
         Ok(_) => Err(Fail::new("a run of a refused pair")),
         Err(fault) => {
-            assert_eq!(rt; fault.refusal().number, 13);
+            assert_eq!(rt; Refusal::from(fault).number, 13);
             Ok(())
         },
     }

@@ -34,14 +34,14 @@ fn refusal(number: u16, first: usize) -> Refusal {
 fn read<T: Time>(file: &[u8], head: &Head, times: &mut [T]) -> Result<usize, Refusal> {
     match read_table(file, head, times) {
         Ok(size) => Ok(size),
-        Err(fault) => Err(fault.refusal()),
+        Err(fault) => Err(Refusal::from(fault)),
     }
 }
 
 fn write<T: Time>(head: &Head, times: &[T], file: &mut [u8]) -> Result<usize, Refusal> {
     match write_table(head, times, file) {
         Ok(length) => Ok(length),
-        Err(fault) => Err(fault.refusal()),
+        Err(fault) => Err(Refusal::from(fault)),
     }
 }
 

@@ -2,7 +2,7 @@
 // made here.
 #![tactic(auto)]
 
-ghost use Rattle.std.specs.Prelude.{◌≡◌, ℕ, ◌^◌, ◌<◌, ◌≤◌, true};
+ghost use Rattle.std.specs.Prelude.{◌≡◌, ℕ, ◌^◌, ◌<◌, ◌≤◌, true, false};
 ghost use Rattle.sets.specs.Sets.{has, joined};
 
 use std::marker::Model;
@@ -46,6 +46,13 @@ impl Set {
         if member >= 64 || self.has(member) {
             return self;
         }
+        self.grown(member)
+    }
+
+    fn grown(self, member: u8) -> Set
+        requires { (member < 64) × (has self member ≡ false) }
+        ensures { result ≡ joined self member }
+    {
         Set {
             bits: self.bits + (1 << member),
         }

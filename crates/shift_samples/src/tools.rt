@@ -91,7 +91,7 @@ pub fn refused<T: Time>(
         Ok(_) => Err(Fail::new("shifted")),
         Err(fault) => {
             assert_eq!(rt;
-                fault.refusal(),
+                Refusal::from(fault),
                 Refusal {
                     number,
                     first: place,

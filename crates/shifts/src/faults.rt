@@ -17,21 +17,15 @@ pub enum ShiftFault {
     ShortTimes(usize),
 }
 
-impl ShiftFault {
-    pub fn refusal(&self) -> Refusal
-        ensures { result ≡ shift_fault self.now }
-    {
-        let (number, first) = match *self {
-            ShiftFault::InMemory(fault) => return fault.refusal(),
-            ShiftFault::TooLarge => (18, 0),
-            ShiftFault::ShortLimits(size) => (11, size),
-            ShiftFault::ShortTimes(size) => (11, size),
-        };
-        Refusal {
-            number,
-            first,
-            second: 0,
-            third: 0,
+impl From<ShiftFault> for Refusal {
+    ghost from_gives = { λ f r. r ≡ shift_fault f };
+
+    fn from(fault: ShiftFault) -> Refusal {
+        match fault {
+            ShiftFault::InMemory(fault) => Refusal::from(fault),
+            ShiftFault::TooLarge => Refusal::at(18, 0),
+            ShiftFault::ShortLimits(size) => Refusal::at(11, size),
+            ShiftFault::ShortTimes(size) => Refusal::at(11, size),
         }
     }
 }

@@ -5,7 +5,9 @@ use Rattle.std.proofs.lemmas.Bool.{eqb-true}
 use Rattle.std.proofs.lemmas.Bool.Decides.{nat_tests}
 use Rattle.fields.specs.Fields.{number_at, between, AllKept}
 use Rattle.files.specs.Headers.{table_mark}
-use Rattle.times.specs.Coding.{Kind, whole_kind, fine_kind, version_of}
+use Rattle.times.specs.declared.codings.Kind.{Kind}
+use Rattle.times.specs.declared.codings.Kind.TheVariants.{Whole, Fine}
+use Rattle.times.specs.Coding.{version_of}
 use Rattle.heads.specs.declared.Head.{Head}
 use Rattle.table_files.specs.Layouts.{header_fields}
 use Rattle.table_files.specs.Writings.{header_bytes}
@@ -18,8 +20,8 @@ itself : (n x : ℕ) → x ≡ n → between n n x ≡ true
 itself n x h = grind (arith, nat_tests)
 
 version_small : (kind : Kind) → version_of kind < 256
-version_small whole_kind = omega arith
-version_small fine_kind = omega arith
+version_small Whole = omega arith
+version_small Fine = omega arith
 
 module _ (kind : Kind) (head : Head) (file : List ℕ) where
   pub header_spelled : Bytes file → AllKept file (header_fields kind head) → file ≡ header_bytes kind head ++ drop 7 file

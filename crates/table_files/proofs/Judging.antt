@@ -6,7 +6,8 @@ use Rattle.refusals.specs.Answers.{Answer, given, refused, and_then, unless, ref
 use Rattle.refusals.specs.declared.Refusal.{Refusal}
 use Rattle.fields.specs.Fields.{Field, checked, AllKept, FirstRefused, JudgedFields}
 use Rattle.fields.proofs.Chains.{onward, checked_judged}
-use Rattle.times.specs.Coding.{Kind, time_at}
+use Rattle.times.specs.declared.codings.Kind.{Kind}
+use Rattle.times.specs.Coding.{time_at}
 use Rattle.times.specs.Moments.{Moment}
 use Rattle.refusals.specs.Searches.{when}
 use Rattle.heads.specs.declared.Head.{Head}

@@ -3,13 +3,13 @@ use Rattle.std.proofs.Common.{◌≡◌, ℕ, ◌*◌, ◌^◌, ◌<◌, ◌≤�
 use Rattle.std.proofs.lemmas.Bool.{ltb-true, ltb-false, lt-ltb, le-ltb}
 use Rattle.refusals.specs.Answers.{Answer, given, refused, unless, refusal_at}
 use Rattle.refusals.specs.declared.Refusal.{Refusal}
-use Rattle.times.specs.Coding.{Kind}
+use Rattle.times.specs.declared.codings.Kind.{Kind}
 use Rattle.times.specs.Moments.{Moment}
 use Rattle.plans.specs.Memory.{memory_refusal, TimesKept, MemoryRefused}
 use Rattle.heads.specs.declared.Head.{Head}
 use Rattle.heads.proofs.Tests.{length-tests}
 use Rattle.table_files.specs.Layouts.{table_size, table_length}
-use Rattle.table_files.specs.Readings.{room_answer}
+use Rattle.refusals.specs.Rooms.{room_answer}
 use Rattle.table_files.specs.Writings.{bare, write_table, left_by, written, in_memory, no_room, WriteSays}
 use Rattle.table_files.proofs.Laid.{yes}
 use Rattle.table_files.proofs.Timed.{never}

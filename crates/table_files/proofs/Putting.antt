@@ -5,7 +5,9 @@ use Rattle.std.specs.List.{flat_map, AllByRecursion}
 use Rattle.std.proofs.lemmas.List.Edits.{paste_none, paste-paste, paste_all}
 use Rattle.std.proofs.ByRecursion.{All-push}
 use Rattle.std.proofs.lemmas.List.{map_more, flat_map_more, length-append, length-map, length-take-le}
-use Rattle.times.specs.Coding.{Kind, whole_kind, fine_kind, width_of, time_bytes}
+use Rattle.times.specs.declared.codings.Kind.{Kind}
+use Rattle.times.specs.declared.codings.Kind.TheVariants.{Whole, Fine}
+use Rattle.times.specs.Coding.{width_of, time_bytes}
 use Rattle.times.specs.Moments.{Moment}
 use Rattle.heads.specs.declared.Head.{Head}
 use Rattle.table_files.specs.Layouts.{time_place}
@@ -13,12 +15,12 @@ use Rattle.table_files.specs.Writings.{OfKind, header_bytes, table_bytes}
 use Rattle.table_files.proofs.Timed.{width_more}
 
 pub length-time_bytes : (kind : Kind) (m : Moment) → length (time_bytes kind m) ≡ width_of kind
-length-time_bytes whole_kind m = refl
-length-time_bytes fine_kind m = refl
+length-time_bytes Whole m = refl
+length-time_bytes Fine m = refl
 
 pub length-times : (kind : Kind) (ms : List Moment) → length (flat_map (time_bytes kind) ms) ≡ width_of kind * length ms
-length-times whole_kind [] = refl
-length-times fine_kind [] = refl
+length-times Whole [] = refl
+length-times Fine [] = refl
 length-times kind (m ∷ ms) =
     let more : width_of kind * suc (length ms) ≡ width_of kind * length ms + width_of kind = ap (λ n. width_of kind * n) (omega arith) ∙ width_more kind (length ms) in
     length-append (time_bytes kind m) _ ∙ omega (arith, length-time_bytes kind m, length-times kind ms, more)
@@ -27,8 +29,8 @@ pub length-table : (kind : Kind) (head : Head) (ms : List Moment) → length (ta
 length-table kind head ms = length-append (header_bytes kind head) _ ∙ ap (λ n. 7 + n) (length-times kind ms)
 
 pub put_none : (kind : Kind) (d : List ℕ) → d ≡ paste d 7 [] (width_of kind * 0)
-put_none whole_kind d = paste_none d 7 []
-put_none fine_kind d = paste_none d 7 []
+put_none Whole d = paste_none d 7 []
+put_none Fine d = paste_none d 7 []
 
 module _ {X : Type 0} (of : X → Moment) (kind : Kind) where
   abbrev so_far : List X → ℕ → List ℕ

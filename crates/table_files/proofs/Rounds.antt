@@ -7,7 +7,8 @@ use Rattle.std.proofs.lemmas.List.{same_lists, take_all, take_at, length-drop}
 use Rattle.std.proofs.lemmas.Bool.{le-leb}
 use Rattle.refusals.specs.Answers.{Answer, given, unless}
 use Rattle.fields.specs.Fields.{Kept, AllKept}
-use Rattle.times.specs.Coding.{Kind, width_of, time_at, time_bytes}
+use Rattle.times.specs.declared.codings.Kind.{Kind}
+use Rattle.times.specs.Coding.{width_of, time_at, time_bytes}
 use Rattle.times.specs.Moments.{Moment}
 use Rattle.plans.specs.Memory.{allowed, memory_refusal, TimesKept}
 use Rattle.plans.specs.Plans.{origin}

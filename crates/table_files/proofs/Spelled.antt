@@ -3,7 +3,9 @@ use Rattle.std.proofs.Common.{◌≡◌, ℕ, zero, suc, ◌+◌, ◌*◌, ◌<�
 use Rattle.std.specs.List.{flat_map, AllByRecursion}
 use Rattle.std.proofs.ByRecursion.{All-from_get_or}
 use Rattle.std.proofs.lemmas.List.{get_or_append_left, get_or-drop, get_or-take, drop-drop, drop_at, drop-take, take-take, take-append-drop, flat_map_more}
-use Rattle.times.specs.Coding.{Kind, whole_kind, fine_kind, Recoded, width_of, word_at, signed_at, time_at, time_bytes}
+use Rattle.times.specs.declared.codings.Kind.{Kind}
+use Rattle.times.specs.declared.codings.Kind.TheVariants.{Whole, Fine}
+use Rattle.times.specs.Coding.{Recoded, width_of, word_at, signed_at, time_at, time_bytes}
 use Rattle.times.specs.Moments.{Moment, whole}
 use Rattle.times.proofs.Words.{again, again_twice}
 use Rattle.table_files.specs.Layouts.{time_place}
@@ -19,8 +21,8 @@ pub all_bytes : (file : List ℕ) → Bytes file → AllByRecursion (λ b. b < 2
 all_bytes file small = All-from_get_or (λ b. b < 256) file 0 (λ i h. small i)
 
 recoded : (kind : Kind) → Recoded kind
-recoded whole_kind = again
-recoded fine_kind = again_twice
+recoded Whole = again
+recoded Fine = again_twice
 
 -- the same bytes are the same time
 
@@ -30,10 +32,10 @@ signed_same xs ys a b p q r s =
     ap (to_z w32) same
 
 time_same : (kind : Kind) (xs ys : List ℕ) (at : ℕ) → ((j : ℕ) → j < width_of kind → get_or xs j 0 ≡ get_or ys (at + j) 0) → time_at kind xs 0 ≡ time_at kind ys at
-time_same whole_kind xs ys at h =
+time_same Whole xs ys at h =
     let zero_at : at + 0 ≡ at = omega arith in
     ap whole (signed_same xs ys 0 at (h 0 (omega arith) ∙ ap (λ k. get_or ys k 0) zero_at) (h 1 (omega arith)) (h 2 (omega arith)) (h 3 (omega arith)))
-time_same fine_kind xs ys at h =
+time_same Fine xs ys at h =
     let zero_at : at + 0 ≡ at = omega arith in
     let five : at + 5 ≡ at + 4 + 1 = omega arith in
     let six : at + 6 ≡ at + 4 + 2 = omega arith in
@@ -77,8 +79,8 @@ take_both a b l =
     cc
 
 nothing : (kind : Kind) (l : List ℕ) → [] ≡ take (width_of kind * 0) l
-nothing whole_kind l = refl
-nothing fine_kind l = refl
+nothing Whole l = refl
+nothing Fine l = refl
 
 module _ (kind : Kind) (file : List ℕ) (small : Bytes file) where
   -- the times of a file are coded as the bytes that they were read from

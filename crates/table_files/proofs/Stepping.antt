@@ -5,11 +5,13 @@ use Rattle.refusals.specs.Answers.{Answer, given, refused, and_then, unless, ref
 use Rattle.refusals.specs.declared.Refusal.{Refusal}
 use Rattle.fields.specs.Fields.{Field, checked, AllKept}
 use Rattle.fields.proofs.Chains.{onward, halted, judged}
-use Rattle.times.specs.Coding.{Kind, width_of}
+use Rattle.times.specs.declared.codings.Kind.{Kind}
+use Rattle.times.specs.Coding.{width_of}
 use Rattle.refusals.specs.Searches.{when}
 use Rattle.heads.specs.declared.Head.{Head}
 use Rattle.table_files.specs.Layouts.{passing, table_size, time_place, table_length, header_fields, table_time, row_fields, time_fields, end_field}
-use Rattle.table_files.specs.Readings.{times_in, counted, room_answer, end_answer, body_answer, read_table}
+use Rattle.refusals.specs.Rooms.{room_answer}
+use Rattle.table_files.specs.Readings.{times_in, counted, end_answer, body_answer, read_table}
 use Rattle.table_files.proofs.Laid.{yes, kept_at, length-laid}
 use Rattle.table_files.proofs.Timed.{never, width_more}
 

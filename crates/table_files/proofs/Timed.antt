@@ -4,7 +4,9 @@ use Rattle.std.proofs.lemmas.List.{take_more_set, map_push, drop-set-lt}
 use Rattle.std.proofs.lemmas.Bool.{le-leb}
 use Rattle.refusals.specs.Answers.{Answer, given, refused, and_then, unless, refusal_at}
 use Rattle.refusals.specs.declared.Refusal.{Refusal}
-use Rattle.times.specs.Coding.{Kind, whole_kind, fine_kind, width_of, time_at, time_field}
+use Rattle.times.specs.declared.codings.Kind.{Kind}
+use Rattle.times.specs.declared.codings.Kind.TheVariants.{Whole, Fine}
+use Rattle.times.specs.Coding.{width_of, time_at, time_field}
 use Rattle.times.specs.Moments.{Moment}
 use Rattle.plans.specs.Memory.{allowed}
 use Rattle.refusals.specs.Searches.{when}
@@ -17,17 +19,17 @@ pub never : {X Z : Type 0} (r : Refusal) (x : X) → refused r ≡ given x → Z
 never r x e = let z : ◌≡◌ {A = ℕ} 0 1 = cc in absurd (omega arith)
 
 pub width_more : (kind : Kind) (i : ℕ) → width_of kind * (i + 1) ≡ width_of kind * i + width_of kind
-width_more whole_kind i = omega arith
-width_more fine_kind i = omega arith
+width_more Whole i = omega arith
+width_more Fine i = omega arith
 
 pub width_mono : (kind : Kind) (i j : ℕ) → i ≤ j → width_of kind * i ≤ width_of kind * j
-width_mono whole_kind i j h = omega arith
-width_mono fine_kind i j h = omega arith
+width_mono Whole i j h = omega arith
+width_mono Fine i j h = omega arith
 
 -- the time with a number ends before the first one that is not there begins
 pub place_in : (kind : Kind) (i n : ℕ) → i < n → time_place kind i + width_of kind ≤ time_place kind n
-place_in whole_kind i n h = omega arith
-place_in fine_kind i n h = omega arith
+place_in Whole i n h = omega arith
+place_in Fine i n h = omega arith
 
 -- a rule that is asked after a time was there
 

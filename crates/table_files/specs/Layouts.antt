@@ -3,7 +3,8 @@ use Rattle.std.specs.Prelude.{ℕ, zero, suc, ◌+◌, ◌*◌, ◌^◌, List, [
 use Rattle.refusals.specs.Answers.{Answer}
 use Rattle.fields.specs.Fields.{Field, checked, mark_field, version_field, count_field}
 use Rattle.files.specs.Headers.{table_mark}
-use Rattle.times.specs.Coding.{Kind, version_of, width_of, time_at}
+use Rattle.times.specs.declared.codings.Kind.{Kind}
+use Rattle.times.specs.Coding.{version_of, width_of, time_at}
 use Rattle.plans.specs.Memory.{allowed}
 use Rattle.heads.specs.declared.Head.{Head}
 

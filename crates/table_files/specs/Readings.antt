@@ -1,9 +1,11 @@
 -- What reading a table file gives and stores.
 use Rattle.std.specs.Prelude.{◌≡◌, ℕ, ◌<◌, ◌≤◌, List, [], ◌∷◌, map, length, take, drop, nat_lt}
 use Rattle.refusals.specs.Answers.{Answer, given, refused, and_then, unless, refusal_at}
+use Rattle.refusals.specs.Rooms.{room_answer}
 use Rattle.refusals.specs.declared.Refusal.{Refusal}
 use Rattle.fields.specs.Fields.{checked, AllKept, FirstRefused}
-use Rattle.times.specs.Coding.{Kind, time_at}
+use Rattle.times.specs.declared.codings.Kind.{Kind}
+use Rattle.times.specs.Coding.{time_at}
 use Rattle.times.specs.Moments.{Moment}
 use Rattle.refusals.specs.Searches.{when}
 use Rattle.heads.specs.declared.Head.{Head}
@@ -15,10 +17,6 @@ counted a = and_then a (λ xs. given (length xs))
 -- the first so many times of a file
 abbrev pub times_in : Kind → List ℕ → ℕ → List Moment
 times_in kind file n = laid n (λ i. time_at kind file (time_place kind i) ∷ [])
-
--- 11: the room is less than the size that is needed
-abbrev pub room_answer : ℕ → ℕ → Answer (Unit {0})
-room_answer room size = unless (when (nat_lt room size) (refusal_at 11 size)) tt
 
 -- 10: bytes follow the end
 abbrev pub end_answer : List ℕ → ℕ → Answer (Unit {0})

@@ -2,7 +2,7 @@
 use Rattle.std.specs.Prelude.{◌≡◌, ℕ, ◌^◌, ◌<◌, ◌≤◌, List, ◌++◌, length, take, drop}
 use Rattle.std.specs.List.{AllByRecursion}
 use Rattle.refusals.specs.Answers.{Answer, given, refused}
-use Rattle.times.specs.Coding.{Kind}
+use Rattle.times.specs.declared.codings.Kind.{Kind}
 use Rattle.times.specs.Moments.{Moment}
 use Rattle.plans.specs.Memory.{TimesKept}
 use Rattle.heads.specs.declared.Head.{Head}

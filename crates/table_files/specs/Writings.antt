@@ -3,7 +3,8 @@ use Rattle.std.specs.Prelude.{◌≡◌, ℕ, ◌<◌, ◌≤◌, List, [], ◌�
 use Rattle.std.specs.List.{flat_map}
 use Rattle.refusals.specs.Answers.{Answer, given, refused, unless, refusal_at}
 use Rattle.refusals.specs.declared.Refusal.{Refusal}
-use Rattle.times.specs.Coding.{Kind, version_of, time_at, time_bytes}
+use Rattle.times.specs.declared.codings.Kind.{Kind}
+use Rattle.times.specs.Coding.{version_of, time_at, time_bytes}
 use Rattle.times.specs.Moments.{Moment}
 use Rattle.refusals.specs.Searches.{or_else, when}
 use Rattle.plans.specs.Plans.{Plan}

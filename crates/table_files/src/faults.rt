@@ -6,34 +6,28 @@ ghost use Rattle.table_files.specs.declared.faults.WriteFault.TheVariants.{InMem
 
 use files::headers::HeaderFault;
 use plans::MemoryFault;
-use refusals::Refusal;
+use refusals::{NoRoom, Refusal};
 use times::TimeFault;
 
 #[derive(Clone, Copy, PartialEq, Eq, Debug)]
 pub enum TableFault {
     InHeader(HeaderFault),
     // the array is shorter than this number of times
-    NoRoom(usize),
+    NoRoom(NoRoom),
     InTime(TimeFault),
     // bytes follow the last time, from this place on
     Trailing(usize),
 }
 
-impl TableFault {
-    pub fn refusal(&self) -> Refusal
-        ensures { result ≡ table_refusal self.now }
-    {
-        let (number, first) = match *self {
-            TableFault::InHeader(fault) => return fault.refusal(),
-            TableFault::InTime(fault) => return fault.refusal(),
-            TableFault::NoRoom(size) => (11, size),
-            TableFault::Trailing(place) => (10, place),
-        };
-        Refusal {
-            number,
-            first,
-            second: 0,
-            third: 0,
+impl From<TableFault> for Refusal {
+    ghost from_gives = { λ f r. r ≡ table_refusal f };
+
+    fn from(fault: TableFault) -> Refusal {
+        match fault {
+            TableFault::InHeader(fault) => Refusal::from(fault),
+            TableFault::InTime(fault) => Refusal::from(fault),
+            TableFault::NoRoom(fault) => Refusal::from(fault),
+            TableFault::Trailing(place) => Refusal::at(10, place),
         }
     }
 }
@@ -60,21 +54,16 @@ pub enum WriteFault {
     // the number of times, or one of them
     InMemory(MemoryFault),
     // the array is shorter than the file, whose length this is
-    NoRoom(usize),
+    NoRoom(NoRoom),
 }
 
-impl WriteFault {
-    pub fn refusal(&self) -> Refusal
-        ensures { result ≡ write_fault self.now }
-    {
-        match *self {
-            WriteFault::InMemory(fault) => fault.refusal(),
-            WriteFault::NoRoom(length) => Refusal {
-                number: 11,
-                first: length,
-                second: 0,
-                third: 0,
-            },
+impl From<WriteFault> for Refusal {
+    ghost from_gives = { λ f r. r ≡ write_fault f };
+
+    fn from(fault: WriteFault) -> Refusal {
+        match fault {
+            WriteFault::InMemory(fault) => Refusal::from(fault),
+            WriteFault::NoRoom(fault) => Refusal::from(fault),
         }
     }
 }
@@ -84,5 +73,21 @@ impl From<MemoryFault> for WriteFault {
 
     fn from(fault: MemoryFault) -> WriteFault {
         WriteFault::InMemory(fault)
+    }
+}
+
+impl From<NoRoom> for TableFault {
+    ghost from_gives = { λ f r. r ≡ TableFault.NoRoom f };
+
+    fn from(fault: NoRoom) -> TableFault {
+        TableFault::NoRoom(fault)
+    }
+}
+
+impl From<NoRoom> for WriteFault {
+    ghost from_gives = { λ f r. r ≡ WriteFault.NoRoom f };
+
+    fn from(fault: NoRoom) -> WriteFault {
+        WriteFault::NoRoom(fault)
     }
 }

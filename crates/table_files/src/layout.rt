@@ -3,7 +3,7 @@ ghost use Rattle.std.specs.Prelude.{◌≡◌, ◌^◌, ◌<◌};
 ghost use Rattle.files.specs.Headers.{table_fields};
 ghost use Rattle.table_files.specs.Layouts.{header_fields, table_size, time_place};
 
-use files::headers::{PlanHeader, Version};
+use files::headers::PlanHeader;
 use heads::Head;
 use times::Time;
 
@@ -26,13 +26,8 @@ pub(crate) fn time_place<T: Time>(number: usize) -> usize
 pub(crate) fn plan_header<T: Time>(head: &Head) -> PlanHeader
     ensures { table_fields result ≡ header_fields T.Time.kind head.now }
 {
-    let version = if T::version() == 1 {
-        Version::Whole
-    } else {
-        Version::Fine
-    };
     PlanHeader {
-        version,
+        version: T::kind(),
         points: head.points(),
         tests: head.letters(),
         limits: 0,

@@ -6,7 +6,7 @@ ghost use Rattle.refusals.specs.Searches.{when};
 ghost use Rattle.times.specs.Coding.{time_refusal};
 ghost use Rattle.table_files.specs.Faults.{table_refusal};
 ghost use Rattle.table_files.specs.Layouts.{passing, time_place, table_time, row_fields, time_fields};
-ghost use Rattle.table_files.specs.Readings.{Filled, ReadSays, RefusesExactly, counted, end_answer, read_table, room_answer, times_in};
+ghost use Rattle.table_files.specs.Readings.{Filled, ReadSays, RefusesExactly, counted, end_answer, read_table, times_in};
 ghost use Rattle.table_files.specs.Trips.{Checked, ReadExactly, Ready, WritesBack};
 
 use crate::faults::TableFault;
@@ -14,6 +14,7 @@ use crate::layout::{plan_header, table_size, time_place};
 use files::headers::check_table_header;
 use heads::Head;
 use plans::is_allowed;
+use refusals::check_room;
 use times::{Time, TimeFault};
 
 // Fills the front of an array with the times of a table file for a head, and says how many they are.
@@ -42,16 +43,6 @@ fn check_file<T: Time>(file: &[u8], head: &Head, room: usize) -> Result<usize, T
     check_times::<T>(file, head)?;
     check_end(file, time_place::<T>(size))?;
     Ok(size)
-}
-
-// Whether an array has room for so many times.
-fn check_room(room: usize, size: usize) -> Result<(), TableFault>
-    ensures { answer_of (λ u. u) table_refusal result ≡ room_answer room size }
-{
-    if room < size {
-        return Err(TableFault::NoRoom(size));
-    }
-    Ok(())
 }
 
 // Whether a file goes no further than its last time.

@@ -8,7 +8,6 @@ ghost use Rattle.plans.specs.Faults.{memory_fault};
 ghost use Rattle.plans.specs.Memory.{MemorySays, memory_refusal};
 ghost use Rattle.table_files.specs.Faults.{write_fault};
 ghost use Rattle.table_files.specs.Layouts.{time_place};
-ghost use Rattle.table_files.specs.Readings.{room_answer};
 ghost use Rattle.table_files.specs.Trips.{ReadsBack};
 ghost use Rattle.table_files.specs.Writings.{OfKind, WriteSays, bare, header_bytes, write_table, written};
 
@@ -16,6 +15,7 @@ use crate::faults::WriteFault;
 use crate::layout::time_place;
 use heads::Head;
 use plans::{MemoryFault, Pair, check_pair};
+use refusals::check_room;
 use times::Time;
 
 // Writes the table file of these times to the front of an array, and says how long it is.
@@ -27,7 +27,7 @@ pub fn write_table<T: Time>(head: &Head, times: &[T], file: &mut [u8]) -> Result
 {
     check_memory(head, times)?;
     let length = time_place::<T>(times.len());
-    check_length(file.len(), length)?;
+    check_room(file.len(), length)?;
     put_header::<T>(head, file);
     put_times(times, file);
     Ok(length)
@@ -43,16 +43,6 @@ fn check_memory<'a, T: Time>(head: &'a Head, times: &'a [T]) -> Result<(), Memor
         limits: &[],
         times,
     })
-}
-
-// Whether an array has room for a file of this length.
-fn check_length(room: usize, length: usize) -> Result<(), WriteFault>
-    ensures { answer_of (λ u. u) write_fault result ≡ room_answer room length }
-{
-    if room < length {
-        return Err(WriteFault::NoRoom(length));
-    }
-    Ok(())
 }
 
 // The mark, the version of the kind, and the numbers of points and tests.

@@ -1,16 +1,18 @@
 -- How many bytes times take.
 use Rattle.std.proofs.Common.{◌≡◌, ℕ, ◌+◌, ◌*◌, ◌≤◌, length, refl, arith}
-use Rattle.times.specs.Coding.{Kind, whole_kind, fine_kind, width_of, time_bytes}
+use Rattle.times.specs.declared.codings.Kind.{Kind}
+use Rattle.times.specs.declared.codings.Kind.TheVariants.{Whole, Fine}
+use Rattle.times.specs.Coding.{width_of, time_bytes}
 use Rattle.times.specs.Moments.{Moment}
 
 pub width_more : (kind : Kind) (i : ℕ) → width_of kind * (i + 1) ≡ width_of kind * i + width_of kind
-width_more whole_kind i = omega arith
-width_more fine_kind i = omega arith
+width_more Whole i = omega arith
+width_more Fine i = omega arith
 
 pub width_small : (kind : Kind) → width_of kind ≤ 8
-width_small whole_kind = omega arith
-width_small fine_kind = omega arith
+width_small Whole = omega arith
+width_small Fine = omega arith
 
 pub length-time_bytes : (kind : Kind) (m : Moment) → length (time_bytes kind m) ≡ width_of kind
-length-time_bytes whole_kind m = refl
-length-time_bytes fine_kind m = refl
+length-time_bytes Whole m = refl
+length-time_bytes Fine m = refl

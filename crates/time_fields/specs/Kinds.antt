@@ -1,6 +1,7 @@
 -- Moments that a kind of time can hold.
 use Rattle.std.specs.Prelude.{◌≡◌}
-use Rattle.times.specs.Coding.{Kind, time_at, time_bytes}
+use Rattle.times.specs.declared.codings.Kind.{Kind}
+use Rattle.times.specs.Coding.{time_at, time_bytes}
 use Rattle.times.specs.Moments.{Moment}
 
 -- the bytes of the moment say it again

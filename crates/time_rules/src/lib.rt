@@ -8,7 +8,7 @@ ghost use Rattle.times.specs.Moments.{bound_rule, is_zero, moment_of, same_momen
 use times::{Coded, Time};
 
 // The ticks and the grains of a time of any kind.
-#[derive(Clone, Copy)]
+#[derive(Clone, Copy, PartialEq, Eq)]
 struct Parts {
     ticks: i32,
     grains: i32,
@@ -37,7 +37,7 @@ pub fn is_bound<T: Time>(t: T) -> bool
     ensures { result ≡ bound_rule (T.Time.moment t) }
 {
     let Parts { ticks, grains } = parts_of(t);
-    -1_000_000 <= ticks && ticks <= 1_000_000 && -1_000 <= grains && grains <= 1_000
+    (-1_000_000..=1_000_000).contains(&ticks) && (-1_000..=1_000).contains(&grains)
 }
 
 // Does a time keep the rule of a table's times?
@@ -46,14 +46,17 @@ pub fn is_table_time<T: Time>(t: T) -> bool
 {
     let zero = whole_ticks::<T>(0);
     let Parts { ticks, grains } = parts_of(t);
-    !t.is_earlier(zero) && ticks <= 1_000_000 && -1_000 <= grains && grains <= 1_000
+    !t.is_earlier(zero) && ticks <= 1_000_000 && (-1_000..=1_000).contains(&grains)
 }
 
 pub fn is_at_zero<T: Time>(t: T) -> bool
     ensures { result ≡ is_zero (T.Time.moment t) }
 {
-    let Parts { ticks, grains } = parts_of(t);
-    ticks == 0 && grains == 0
+    let zero = Parts {
+        ticks: 0,
+        grains: 0,
+    };
+    parts_of(t) == zero
 }
 
 // Do two times stand for one moment?
@@ -61,9 +64,7 @@ pub fn is_same<T: Time>(a: T, b: T) -> bool
     ensures value { result ≡ same_moment (T.Time.moment a) (T.Time.moment b) }
     ensures same { Decides result (T.Time.moment a ≡ T.Time.moment b) }
 {
-    let one = parts_of(a);
-    let other = parts_of(b);
-    one.ticks == other.ticks && one.grains == other.grains
+    parts_of(a) == parts_of(b)
 }
 
 // Whole ticks as a time of any kind, made from its bytes: those of the ticks, and zeros for grains.

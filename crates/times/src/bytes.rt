@@ -1,7 +1,7 @@
 // The bytes of a coded time.
 ghost use Rattle.std.specs.Prelude.{◌≡◌};
 ghost use Rattle.refusals.specs.Answers.{answer_of};
-ghost use Rattle.times.specs.Coding.{coded_bytes, signed_field, time_refusal};
+ghost use Rattle.times.specs.Coding.{coded_bytes, part_at, signed_field, time_refusal};
 
 use crate::faults::TimeFault;
 
@@ -23,12 +23,19 @@ impl Coded {
     }
 }
 
+// So many bytes of a file from a place on, or none where it ends before.
+pub fn bytes_at<const N: usize>(file: &[u8], at: usize) -> Option<[u8; N]>
+    ensures { result ≡ part_at file.now at N }
+{
+    file.get(at..)?.first_chunk().copied()
+}
+
 // The integer of a file whose first byte is at a place.
 pub fn signed_at(file: &[u8], at: usize) -> Result<i32, TimeFault>
     ensures { answer_of (λ z. z) time_refusal result ≡ signed_field file.now at }
 {
-    if at > file.len() || file.len() - at < 4 {
+    let Some(bytes) = bytes_at(file, at) else {
         return Err(TimeFault::Ended(file.len()));
-    }
-    Ok(i32::from_be_bytes([file[at], file[at + 1], file[at + 2], file[at + 3]]))
+    };
+    Ok(i32::from_be_bytes(bytes))
 }

@@ -12,19 +12,13 @@ pub enum TimeFault {
     OutOfRule(usize),
 }
 
-impl TimeFault {
-    pub fn refusal(&self) -> Refusal
-        ensures { result ≡ time_refusal self.now }
-    {
-        let (number, first) = match *self {
-            TimeFault::Ended(length) => (1, length),
-            TimeFault::OutOfRule(place) => (9, place),
-        };
-        Refusal {
-            number,
-            first,
-            second: 0,
-            third: 0,
+impl From<TimeFault> for Refusal {
+    ghost from_gives = { λ f r. r ≡ time_refusal f };
+
+    fn from(fault: TimeFault) -> Refusal {
+        match fault {
+            TimeFault::Ended(length) => Refusal::at(1, length),
+            TimeFault::OutOfRule(place) => Refusal::at(9, place),
         }
     }
 }

@@ -2,10 +2,12 @@
 ghost use Rattle.std.specs.Prelude.{◌≡◌, ℤ};
 ghost use Rattle.std.specs.Option.{option_map};
 ghost use Rattle.refusals.specs.Answers.{answer_of};
-ghost use Rattle.times.specs.Coding.{Kind, Recoded, coded_bytes, time_at, time_bytes, time_field, time_refusal, version_of, width_of};
+ghost use Rattle.times.specs.declared.codings.Kind.{Kind};
+ghost use Rattle.times.specs.Coding.{Recoded, coded_bytes, time_at, time_bytes, time_field, time_refusal, version_of, width_of};
 ghost use Rattle.times.specs.Moments.{Moment, LastWhole, added, earlier, last_tick, within};
 
 use crate::bytes::Coded;
+use crate::codings::Kind;
 use crate::counts::Ticks;
 use crate::faults::TimeFault;
 
@@ -33,13 +35,23 @@ pub trait Time: Copy {
         ensures value { result ≡ last_tick (moment self) }
         ensures last { LastWhole (moment self) result };
 
+    // Which coding its times have in files.
+    fn kind() -> Kind
+        ensures { result ≡ kind };
+
     // The version of the files whose times are of this kind.
     fn version() -> u16
-        ensures { result ≡ version_of kind };
+        ensures { result ≡ version_of kind }
+    {
+        Self::kind().version()
+    }
 
     // How many bytes a time takes.
     fn width() -> usize
-        ensures { result ≡ width_of kind };
+        ensures { result ≡ width_of kind }
+    {
+        Self::kind().width()
+    }
 
     // The bytes of a time. What they decode to is the same moment.
     fn encode(self) -> Coded

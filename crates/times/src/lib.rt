@@ -3,11 +3,13 @@
 #![tactic(auto)]
 
 mod bytes;
+mod codings;
 mod counts;
 mod faults;
 mod kinds;
 
-pub use bytes::{Coded, signed_at};
+pub use bytes::{Coded, bytes_at, signed_at};
+pub use codings::{Kind, UnknownVersion};
 pub use counts::{Ticks, difference};
 pub use faults::TimeFault;
 pub use kinds::Time;

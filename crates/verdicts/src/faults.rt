@@ -13,13 +13,13 @@ pub enum PairFault {
     Offends(Offence),
 }
 
-impl PairFault {
-    pub fn refusal(&self) -> Refusal
-        ensures { result ≡ pair_refusal self.now }
-    {
-        match *self {
-            PairFault::InMemory(fault) => fault.refusal(),
-            PairFault::Offends(offence) => offence.refusal(),
+impl From<PairFault> for Refusal {
+    ghost from_gives = { λ f r. r ≡ pair_refusal f };
+
+    fn from(fault: PairFault) -> Refusal {
+        match fault {
+            PairFault::InMemory(fault) => Refusal::from(fault),
+            PairFault::Offends(offence) => Refusal::from(offence),
         }
     }
 }

@@ -2,13 +2,13 @@
 #![tactic(auto)]
 
 ghost use Rattle.std.specs.Prelude.{◌≡◌};
-ghost use Rattle.times.specs.Coding.{whole_kind};
+ghost use Rattle.times.specs.declared.codings.Kind.TheVariants as kinds;
 ghost use Rattle.times.specs.Moments.{whole};
 ghost use Rattle.times.proofs.Words.{again};
 
-use times::{Coded, Ticks, Time, TimeFault, difference, signed_at};
+use times::{Coded, Kind, Ticks, Time, TimeFault, difference, signed_at};
 
-#[derive(Clone, Copy, PartialEq, Eq, Debug)]
+#[derive(Clone, Copy, PartialEq, Eq, PartialOrd, Ord, Debug)]
 pub struct Whole {
     pub ticks: i32,
 }
@@ -16,12 +16,12 @@ pub struct Whole {
 impl Time for Whole {
     ghost moment = { λ t. whole t.ticks };
 
-    ghost kind = { whole_kind };
+    ghost kind = { kinds.Whole };
 
     ghost recoded = { again };
 
     fn is_earlier(self, other: Whole) -> bool {
-        self.ticks < other.ticks
+        self < other
     }
 
     fn is_within(self, second: Whole, bound: Whole) -> bool {
@@ -37,12 +37,8 @@ impl Time for Whole {
         i64::from(self.ticks)
     }
 
-    fn version() -> u16 {
-        1
-    }
-
-    fn width() -> usize {
-        4
+    fn kind() -> Kind {
+        Kind::Whole
     }
 
     fn encode(self) -> Coded {

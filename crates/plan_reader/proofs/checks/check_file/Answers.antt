@@ -2,7 +2,7 @@ use Rattle.std.proofs.Common.{◌≡◌, ℕ, List, ap, ◌∙◌}
 use Rattle.std.proofs.lemmas.Result.{err_from_is_err_and}
 use Rattle.refusals.specs.Answers.{given}
 use Rattle.fields.specs.Laid.{passing}
-use Rattle.fields.specs.Readings.{room_answer}
+use Rattle.refusals.specs.Rooms.{room_answer}
 use Rattle.fields.proofs.Laid.{yes}
 use Rattle.plan_records.specs.declared.readers.Reader.{Reader}
 use Rattle.plan_contents.specs.Readings.{header, body_fields}

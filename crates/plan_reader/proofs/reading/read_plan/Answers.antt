@@ -4,7 +4,7 @@ use Rattle.refusals.specs.Answers.{given}
 use Rattle.fields.proofs.Readings.{refuses_exactly}
 use Rattle.time_fields.proofs.Spelled.{Bytes}
 use Rattle.files.specs.Headers.{plan_fields_of}
-use Rattle.plan_contents.specs.Readings.{version_for, header, body_fields, contents_in}
+use Rattle.plan_contents.specs.Readings.{header, body_fields, contents_in}
 use Rattle.plan_contents.proofs.Storing.{answer_says, few, small, ends, room_there, is_head, stored}
 use Rattle.plan_contents.proofs.Trips.{read_exactly, writes_back}
 use Rattle.plan_reader.proofs.reading.read_plan.Goals as goal
@@ -21,7 +21,7 @@ returns-in_err-header g c =
       answer = e;
       filled = (refl, refl);
       says = answer_says kind file room _ e;
-      refuses = refuses_exactly file (plan_fields_of (version_for kind)) (body_fields file) (header file).limits room (contents_in file kind);
+      refuses = refuses_exactly file (plan_fields_of kind) (body_fields file) (header file).limits room (contents_in file kind);
       exact = read_exactly kind file room bytes;
       back = writes_back kind file room bytes;
     })
@@ -77,7 +77,7 @@ returns g c =
       answer = e;
       filled = (stored kind file room known.1 h known.0 _ _ c.width.ensures c.from-count.ensures _ _ (omega (arith, end, c.from.ensures)) (omega (arith, end)) _ _ c.head_at.ensures c.fill_limits.ensures.front, c.fill_limits.ensures.rest);
       says = known.1;
-      refuses = refuses_exactly file (plan_fields_of (version_for kind)) (body_fields file) (header file).limits room (contents_in file kind);
+      refuses = refuses_exactly file (plan_fields_of kind) (body_fields file) (header file).limits room (contents_in file kind);
       exact = read_exactly kind file room bytes;
       back = writes_back kind file room bytes;
     }
