@@ -70,10 +70,9 @@ fn check_test(points: u8, tests: &[u8], i: usize) -> Result<(), HeadFault>
 pub fn is_test(points: u8, tests: &[u8], i: usize) -> bool
     ensures { result ≡ is_test (outline points tests.now 0 0) i }
 {
-    if i >= tests.len() {
+    let Some(&point) = tests.get(i) else {
         return false;
-    }
-    let point = tests[i];
+    };
     0 < point && point < points && !tests[..i].contains(&point)
 }
 
