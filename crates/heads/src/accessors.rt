@@ -1,5 +1,5 @@
 // What a head says.
-ghost use Rattle.std.specs.Prelude.{◌≡◌, ◌^◌, slice_index};
+ghost use Rattle.std.specs.Prelude.{◌≡◌, ◌^◌};
 ghost use Rattle.heads.specs.Heads.{test_of, point_of};
 ghost use Rattle.rules.specs.Meanings.{Same, named_rule};
 ghost use Rattle.rules.specs.Seen.{named_sees};
@@ -31,24 +31,14 @@ impl Head {
     pub fn test(&self, letter: u8) -> Option<u8>
         ensures { result ≡ test_of self.now letter }
     {
-        if letter < self.letters {
-            Some(self.point(letter))
-        } else {
-            None
-        }
+        (letter < self.letters).then(|| self.point(letter))
     }
 
     // The point of a test, by its letter, and 0 where there is no such test.
     pub fn point(&self, letter: u8) -> u8
         ensures { result ≡ point_of self.now letter }
     {
-        self.entry(usize::from(letter))
-    }
-
-    fn entry(&self, at: usize) -> u8
-        ensures { result ≡ slice_index self.now.tests at }
-    {
-        if at < 6 { self.tests[at] } else { 0 }
+        self.tests.get(usize::from(letter)).copied().unwrap_or(0)
     }
 
     // The ticks of a round, and 0 where the rule is prompt.

@@ -1,10 +1,9 @@
 // How heads come to be.
 ghost use Rattle.std.specs.Prelude.{◌≡◌, ℕ, ◌<◌, ◌≤◌, List, length, slice_index};
-ghost use Rattle.std.specs.Option.{option_map};
-ghost use Rattle.refusals.specs.Answers.{answer_of};
+ghost use Rattle.refusals.specs.Answers.{answer_of, unless};
 ghost use Rattle.refusals.specs.Searches.{first};
 ghost use Rattle.heads.specs.Faults.{head_fault};
-ghost use Rattle.heads.specs.Heads.{Outline, HeadSays, outline, outline_of, smallest_outline, head_refusal, is_new, is_test, test_refusal, new_head};
+ghost use Rattle.heads.specs.Heads.{Outline, HeadSays, outline, outline_of, smallest_outline, head_refusal, is_test, test_refusal, new_head};
 
 use crate::Head;
 use crate::faults::HeadFault;
@@ -28,9 +27,7 @@ impl Head {
         ensures answer { answer_of outline_of head_fault result ≡ new_head (outline points tests.now round delay) }
         ensures says { HeadSays (outline points tests.now round delay) (answer_of outline_of head_fault result) }
     {
-        if let Some(fault) = first_fault(points, tests, round, delay) {
-            return Err(fault);
-        }
+        check_numbers(points, tests, round, delay)?;
         Ok(Head {
             points,
             letters: tests.len() as u8,
@@ -41,52 +38,42 @@ impl Head {
     }
 }
 
-// The first rule that the numbers break: those of counts, of figures, and of tests.
-fn first_fault(points: u8, tests: &[u8], round: u32, delay: u32) -> Option<HeadFault>
-    ensures { option_map head_fault result ≡ head_refusal (outline points tests.now round delay) }
+// The counts, then the figures, then the tests.
+fn check_numbers(points: u8, tests: &[u8], round: u32, delay: u32) -> Result<(), HeadFault>
+    ensures { answer_of (λ u. u) head_fault result ≡ unless (head_refusal (outline points tests.now round delay)) tt }
 {
     if points < 1 || points > 48 || tests.len() > 6 {
-        return Some(HeadFault::Counts);
+        return Err(HeadFault::Counts);
     }
     if round > 1_000_000 || delay > 1_000_000 {
-        return Some(HeadFault::Figures);
+        return Err(HeadFault::Figures);
     }
-    first_bad_test(points, tests)
+    check_tests(points, tests)
 }
 
-// The first test that is none.
-fn first_bad_test(points: u8, tests: &[u8]) -> Option<HeadFault>
-    ensures { option_map head_fault result ≡ first (length tests.now) (test_refusal (outline points tests.now 0 0)) }
+fn check_tests(points: u8, tests: &[u8]) -> Result<(), HeadFault>
+    ensures { answer_of (λ u. u) head_fault result ≡ unless (first (length tests.now) (test_refusal (outline points tests.now 0 0))) tt }
 {
-    for i in 0..tests.len() {
-        if !is_test(points, tests, i) {
-            return Some(HeadFault::Test(i));
-        }
+    (0..tests.len()).try_for_each(|i| check_test(points, tests, i))
+}
+
+fn check_test(points: u8, tests: &[u8], i: usize) -> Result<(), HeadFault>
+    ensures { answer_of (λ u. u) head_fault result ≡ unless (test_refusal (outline points tests.now 0 0) i) tt }
+{
+    if !is_test(points, tests, i) {
+        return Err(HeadFault::Test(i));
     }
-    None
+    Ok(())
 }
 
 // Whether a test is a point other than the start, and other than those of the tests before it.
 pub fn is_test(points: u8, tests: &[u8], i: usize) -> bool
     ensures { result ≡ is_test (outline points tests.now 0 0) i }
 {
-    if i >= tests.len() {
+    let Some(&point) = tests.get(i) else {
         return false;
-    }
-    let point = tests[i];
-    0 < point && point < points && is_new(tests, i, point)
-}
-
-fn is_new(tests: &[u8], i: usize, point: u8) -> bool
-    requires { (i < length tests.now) × (point ≡ slice_index tests.now i) }
-    ensures { result ≡ is_new (outline 0 tests.now 0 0) i }
-{
-    for j in 0..i {
-        if tests[j] == point {
-            return false;
-        }
-    }
-    true
+    };
+    0 < point && point < points && !tests[..i].contains(&point)
 }
 
 // The tests in a head's own array, with zeros after them.
@@ -96,8 +83,6 @@ fn padded(tests: &[u8]) -> [u8; 6]
     ensures same { (i : ℕ) → slice_index result i ≡ slice_index tests.now i }
 {
     let mut six = [0; 6];
-    for k in 0..tests.len() {
-        six[k] = tests[k];
-    }
+    six[..tests.len()].copy_from_slice(tests);
     six
 }

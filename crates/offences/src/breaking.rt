@@ -1,11 +1,11 @@
 // Finding the first limit offence.
-ghost use Rattle.std.specs.Prelude.{◌≡◌, ◌<◌, length};
+ghost use Rattle.std.specs.Prelude.{◌≡◌};
 ghost use Rattle.std.specs.Option.{option_map};
 ghost use Rattle.plans.specs.Lent.{plan_in, table_in};
 ghost use Rattle.plans.specs.Plans.{applies, keeps};
 ghost use Rattle.plans.specs.Views.{limit_of};
 ghost use Rattle.offences.specs.Faults.{offence_refusal};
-ghost use Rattle.offences.specs.Verdicts.{break_in, breaks, breaks_limit, first_break};
+ghost use Rattle.offences.specs.Verdicts.{break_in, breaks_limit, first_break};
 
 use crate::faults::Offence;
 use plans::{Limit, Pair};
@@ -15,31 +15,16 @@ use times::Time;
 pub fn find_break<T: Time>(pair: &Pair<T>) -> Option<Offence>
     ensures { option_map offence_refusal result ≡ first_break (plan_in T.Time.moment pair.now) (table_in T.Time.moment pair.now) }
 {
-    for row in 0..pair.head.rows() {
-        if let Some(offence) = break_in(pair, row) {
-            return Some(offence);
-        }
-    }
-    None
+    (0..pair.head.rows()).find_map(|row| break_in(pair, row))
 }
 
 fn break_in<T: Time>(pair: &Pair<T>, row: u8) -> Option<Offence>
     ensures { option_map offence_refusal result ≡ break_in (plan_in T.Time.moment pair.now) (table_in T.Time.moment pair.now) row }
 {
-    for j in 0..pair.limits.len() {
-        if is_broken(pair, row, j) {
-            return Some(Offence::Limit { row, limit: j });
-        }
-    }
-    None
-}
-
-// Whether a row breaks the limit with a number.
-fn is_broken<T: Time>(pair: &Pair<T>, row: u8, j: usize) -> bool
-    requires { j < length pair.now.limits.now }
-    ensures { result ≡ breaks (plan_in T.Time.moment pair.now) (table_in T.Time.moment pair.now) row j }
-{
-    does_break(pair, row, pair.limits[j])
+    pair.limits
+        .iter()
+        .position(|limit| does_break(pair, row, *limit))
+        .map(|limit| Offence::Limit { row, limit })
 }
 
 // Whether a limit applies in a row and is not kept there.

@@ -1,12 +1,12 @@
 // What every call that is lent a plan and a table checks first.
-ghost use Rattle.std.specs.Prelude.{◌≡◌, ◌^◌, ◌<◌, length, nat_lt};
-ghost use Rattle.std.specs.Option.{option_map};
-ghost use Rattle.refusals.specs.Answers.{answer_of, unless};
+ghost use Rattle.std.specs.Prelude.{◌≡◌, ◌^◌, length, nat_lt, not};
+ghost use Rattle.refusals.specs.Answers.{answer_of, refusal_at, unless};
 ghost use Rattle.plans.specs.Faults.{memory_fault};
 ghost use Rattle.plans.specs.Lent.{plan_in, table_in};
-ghost use Rattle.plans.specs.Memory.{LimitsSay, MemorySays, allowed, fitting, limit_refusal, limits_refusal, many_refusal, memory_refusal, row_refusal, time_refusal, times_refusal};
-ghost use Rattle.refusals.specs.Searches.{or_else};
+ghost use Rattle.plans.specs.Memory.{LimitsSay, MemorySays, allowed, count_refusal, fitting, limits_refusal, many_refusal, memory_refusal, row_refusal, time_refusal, times_refusal};
+ghost use Rattle.refusals.specs.Searches.{or_else, when};
 ghost use Rattle.plans.specs.Views.{plan_of};
+ghost use Rattle.times.specs.Moments.{bound_rule};
 
 use crate::faults::MemoryFault;
 use crate::limits::Limit;
@@ -20,10 +20,10 @@ pub fn check_pair<T: Time>(pair: &Pair<T>) -> Result<(), MemoryFault>
     ensures answer { answer_of (λ u. u) memory_fault result ≡ unless (memory_refusal (plan_in T.Time.moment pair.now) (table_in T.Time.moment pair.now)) tt }
     ensures says { MemorySays (plan_in T.Time.moment pair.now) (table_in T.Time.moment pair.now) (answer_of (λ u. u) memory_fault result) }
 {
-    match first_fault(pair) {
-        Some(fault) => Err(fault),
-        None => Ok(()),
-    }
+    check_limit_count(pair.limits)?;
+    check_time_count(pair)?;
+    check_each_limit(pair.head, pair.limits)?;
+    check_times(pair)
 }
 
 // Whether limits keep the rules of memory beside a head, or the first that is broken.
@@ -31,67 +31,49 @@ pub fn check_limits<'a, T: Time>(head: &'a Head, limits: &'a [Limit<T>]) -> Resu
     ensures answer { answer_of (λ u. u) memory_fault result ≡ unless (or_else (many_refusal (plan_of T.Time.moment head.now limits.now)) (limits_refusal (plan_of T.Time.moment head.now limits.now))) tt }
     ensures says { LimitsSay (plan_of T.Time.moment head.now limits.now) (answer_of (λ u. u) memory_fault result) }
 {
+    check_limit_count(limits)?;
+    check_each_limit(head, limits)
+}
+
+fn check_limit_count<T: Time>(limits: &[Limit<T>]) -> Result<(), MemoryFault>
+    ensures { answer_of (λ u. u) memory_fault result ≡ unless (when (nat_lt 256 (length limits.now)) (refusal_at 4 0)) tt }
+{
     if limits.len() > 256 {
         return Err(MemoryFault::ManyLimits);
     }
-    let pair = Pair {
-        head,
-        limits,
-        times: &[],
-    };
-    match first_bad_limit(&pair) {
-        Some(fault) => Err(fault),
-        None => Ok(()),
-    }
+    Ok(())
 }
 
-// The counts, then the limits, then the times.
-fn first_fault<T: Time>(pair: &Pair<T>) -> Option<MemoryFault>
-    ensures { option_map memory_fault result ≡ memory_refusal (plan_in T.Time.moment pair.now) (table_in T.Time.moment pair.now) }
+// There is a time for each point in each row.
+fn check_time_count<T: Time>(pair: &Pair<T>) -> Result<(), MemoryFault>
+    ensures { answer_of (λ u. u) memory_fault result ≡ unless (count_refusal (plan_in T.Time.moment pair.now) (table_in T.Time.moment pair.now)) tt }
 {
-    if pair.limits.len() > 256 {
-        return Some(MemoryFault::ManyLimits);
-    }
     if pair.times.len() != usize::from(pair.head.rows()) * usize::from(pair.head.points()) {
-        return Some(MemoryFault::CountOfTimes);
+        return Err(MemoryFault::CountOfTimes);
     }
-    if let Some(fault) = first_bad_limit(pair) {
-        return Some(fault);
-    }
-    first_bad_time(pair)
+    Ok(())
 }
 
-// The first limit that is refused.
-fn first_bad_limit<T: Time>(pair: &Pair<T>) -> Option<MemoryFault>
-    ensures { option_map memory_fault result ≡ limits_refusal (plan_in T.Time.moment pair.now) }
+fn check_each_limit<T: Time>(head: &Head, limits: &[Limit<T>]) -> Result<(), MemoryFault>
+    ensures { answer_of (λ u. u) memory_fault result ≡ unless (limits_refusal (plan_of T.Time.moment head.now limits.now)) tt }
 {
-    for j in 0..pair.limits.len() {
-        if let Some(fault) = limit_fault(pair, j) {
-            return Some(fault);
-        }
-    }
-    None
+    limits
+        .iter()
+        .enumerate()
+        .try_for_each(|(j, limit)| check_limit(head, j, *limit))
 }
 
-fn limit_fault<T: Time>(pair: &Pair<T>, j: usize) -> Option<MemoryFault>
-    requires { j < length pair.now.limits.now }
-    ensures { option_map memory_fault result ≡ limit_refusal (plan_in T.Time.moment pair.now) j }
+// The limit with a number: its points and its letters, then its bound.
+fn check_limit<T: Time>(head: &Head, j: usize, limit: Limit<T>) -> Result<(), MemoryFault>
+    ensures { answer_of (λ u. u) memory_fault result ≡ unless (or_else (when (not (fitting head.now.points (2 ^ head.now.letters) limit)) (refusal_at 8 j)) (when (not (bound_rule (T.Time.moment limit.bound))) (refusal_at 9 j))) tt }
 {
-    let limit = pair.limits[j];
-    if !does_fit(pair.head, limit) {
-        return Some(MemoryFault::Limit(j));
+    if !is_fitting(head.points(), head.letters(), limit) {
+        return Err(MemoryFault::Limit(j));
     }
     if !is_bound(limit.bound) {
-        return Some(MemoryFault::Bound(j));
+        return Err(MemoryFault::Bound(j));
     }
-    None
-}
-
-// Whether a limit fits a head.
-fn does_fit<T: Time>(head: &Head, limit: Limit<T>) -> bool
-    ensures { result ≡ fitting head.now.points (2 ^ head.now.letters) limit }
-{
-    is_fitting(head.points(), head.letters(), limit)
+    Ok(())
 }
 
 // Whether a limit names points and letters that are there, and no letter both ways.
@@ -112,36 +94,25 @@ fn is_set_of(set: u8, letters: u8) -> bool
     letters >= 8 || set < 1 << letters
 }
 
-// The first time that is refused.
-fn first_bad_time<T: Time>(pair: &Pair<T>) -> Option<MemoryFault>
-    ensures { option_map memory_fault result ≡ times_refusal (plan_in T.Time.moment pair.now) (table_in T.Time.moment pair.now) }
+fn check_times<T: Time>(pair: &Pair<T>) -> Result<(), MemoryFault>
+    ensures { answer_of (λ u. u) memory_fault result ≡ unless (times_refusal (plan_in T.Time.moment pair.now) (table_in T.Time.moment pair.now)) tt }
 {
-    for row in 0..pair.head.rows() {
-        if let Some(fault) = bad_time_in(pair, row) {
-            return Some(fault);
-        }
-    }
-    None
+    (0..pair.head.rows()).try_for_each(|row| check_row(pair, row))
 }
 
-fn bad_time_in<T: Time>(pair: &Pair<T>, row: u8) -> Option<MemoryFault>
-    ensures { option_map memory_fault result ≡ row_refusal (plan_in T.Time.moment pair.now) (table_in T.Time.moment pair.now) row }
+fn check_row<T: Time>(pair: &Pair<T>, row: u8) -> Result<(), MemoryFault>
+    ensures { answer_of (λ u. u) memory_fault result ≡ unless (row_refusal (plan_in T.Time.moment pair.now) (table_in T.Time.moment pair.now) row) tt }
 {
-    for point in 0..pair.head.points() {
-        if let Some(fault) = time_fault(pair, row, point) {
-            return Some(fault);
-        }
-    }
-    None
+    (0..pair.head.points()).try_for_each(|point| check_time(pair, row, point))
 }
 
-fn time_fault<T: Time>(pair: &Pair<T>, row: u8, point: u8) -> Option<MemoryFault>
-    ensures { option_map memory_fault result ≡ time_refusal (plan_in T.Time.moment pair.now) (table_in T.Time.moment pair.now) row point }
+fn check_time<T: Time>(pair: &Pair<T>, row: u8, point: u8) -> Result<(), MemoryFault>
+    ensures { answer_of (λ u. u) memory_fault result ≡ unless (time_refusal (plan_in T.Time.moment pair.now) (table_in T.Time.moment pair.now) row point) tt }
 {
-    if is_allowed(point, pair.time(row, point)) {
-        return None;
+    if !is_allowed(point, pair.time(row, point)) {
+        return Err(MemoryFault::Time(pair.place(row, point)));
     }
-    Some(MemoryFault::Time(pair.place(row, point)))
+    Ok(())
 }
 
 // Whether a time keeps the rule of a table, and stands at zero if it is the start's.

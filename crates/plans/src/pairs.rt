@@ -1,6 +1,6 @@
 // A plan and a table, as a call is lent them.
-ghost use Rattle.std.specs.Prelude.{◌≡◌, map, slice_index_or};
-ghost use Rattle.plans.specs.Plans.{moment, origin, place};
+ghost use Rattle.std.specs.Prelude.{◌≡◌};
+ghost use Rattle.plans.specs.Plans.{moment, place};
 ghost use Rattle.plans.specs.Lent.{plan_in, table_in};
 
 use crate::limits::Limit;
@@ -21,7 +21,10 @@ impl<T: Time> Pair<'_, T> {
     pub fn time(&self, row: u8, point: u8) -> T
         ensures { T.Time.moment result ≡ moment (plan_in T.Time.moment self.now) (table_in T.Time.moment self.now) row point }
     {
-        time_at(self.times, self.place(row, point))
+        self.times
+            .get(self.place(row, point))
+            .copied()
+            .unwrap_or_else(|| whole_ticks(0))
     }
 
     // Where the table keeps the time of a point in a row.
@@ -29,15 +32,5 @@ impl<T: Time> Pair<'_, T> {
         ensures { result ≡ place (plan_in T.Time.moment self.now) row point }
     {
         usize::from(row) * usize::from(self.head.points()) + usize::from(point)
-    }
-}
-
-fn time_at<T: Time>(times: &[T], at: usize) -> T
-    ensures { T.Time.moment result ≡ slice_index_or (map T.Time.moment times.now) at origin }
-{
-    if at < times.len() {
-        times[at]
-    } else {
-        whole_ticks(0)
     }
 }

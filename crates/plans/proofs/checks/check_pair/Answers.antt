@@ -1,15 +1,36 @@
-use Rattle.std.proofs.Common.{ap}
-use Rattle.refusals.specs.Answers.{unless}
+use Rattle.std.proofs.Common.{◌≡◌, arith}
+use Rattle.std.proofs.lemmas.Grind.{common_steps}
+use Rattle.refusals.specs.Answers.{answer_of, unless}
+use Rattle.plans.specs.Faults.{memory_fault}
 use Rattle.plans.specs.Lent.{plan_in, table_in}
+use Rattle.plans.specs.Memory.{memory_refusal}
 use Rattle.plans.proofs.Memories.{memory_says}
 use Rattle.plans.proofs.checks.check_pair.Goals as goal
 
-pub returns-in-Some : goal.returns-in-Some
-returns-in-Some g c =
-    let e = ap (λ a. unless a tt) c.in-Some.ensures in
-    record { answer = e; says = memory_says (plan_in g.T.Time.moment c.args.pair.now) (table_in g.T.Time.moment c.args.pair.now) _ e }
+pub returns-in_err-check_limit_count-clause-says : goal.returns-in_err-check_limit_count-clause-says
+returns-in_err-check_limit_count-clause-says g c =
+    let p = plan_in g.T.Time.moment c.args.pair.now in
+    let ts = table_in g.T.Time.moment c.args.pair.now in
+    let e : answer_of (λ u. u) memory_fault c.from_residual.result ≡ unless (memory_refusal p ts) tt = grind (arith, common_steps) in
+    memory_says p ts _ e
 
-pub returns-in-None : goal.returns-in-None
-returns-in-None g c =
-    let e = ap (λ a. unless a tt) c.in-None.ensures in
-    record { answer = e; says = memory_says (plan_in g.T.Time.moment c.args.pair.now) (table_in g.T.Time.moment c.args.pair.now) _ e }
+pub returns-in_err-check_time_count-clause-says : goal.returns-in_err-check_time_count-clause-says
+returns-in_err-check_time_count-clause-says g c =
+    let p = plan_in g.T.Time.moment c.args.pair.now in
+    let ts = table_in g.T.Time.moment c.args.pair.now in
+    let e : answer_of (λ u. u) memory_fault c.from_residual-in_err-check_time_count.result ≡ unless (memory_refusal p ts) tt = grind (arith, common_steps) in
+    memory_says p ts _ e
+
+pub returns-in_err-check_each_limit-clause-says : goal.returns-in_err-check_each_limit-clause-says
+returns-in_err-check_each_limit-clause-says g c =
+    let p = plan_in g.T.Time.moment c.args.pair.now in
+    let ts = table_in g.T.Time.moment c.args.pair.now in
+    let e : answer_of (λ u. u) memory_fault c.from_residual-in_err-check_each_limit.result ≡ unless (memory_refusal p ts) tt = grind (arith, common_steps) in
+    memory_says p ts _ e
+
+pub returns-clause-says : goal.returns-clause-says
+returns-clause-says g c =
+    let p = plan_in g.T.Time.moment c.args.pair.now in
+    let ts = table_in g.T.Time.moment c.args.pair.now in
+    let e : answer_of (λ u. u) memory_fault c.check_times.result ≡ unless (memory_refusal p ts) tt = grind (arith, common_steps) in
+    memory_says p ts _ e
