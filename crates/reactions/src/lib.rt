@@ -19,7 +19,7 @@ use times::Time;
 pub fn find_offence<T: Time, R: Rule>(pair: &Pair<T>, rule: &R) -> Option<Offence>
     ensures { option_map offence_refusal result ≡ offence (plan_in T.Time.moment pair.now) (table_in T.Time.moment pair.now) (R.Rule.sees rule.now) }
 {
-    // No `or_else`: what its closure gives is not inferred here, and with a clause of its own it is no plainer.
+    // Not `or_else`: after it nothing is known of what its closure gave, with or without a clause, and no proof closes.
     if let Some(offence) = find_break(pair) {
         return Some(offence);
     }
