@@ -1,22 +1,16 @@
-use Rattle.std.proofs.Common.{eqb, sym, ◌∙◌}
-use Rattle.std.proofs.lemmas.Bool.{eq-eqb, ne_eqb}
+use Rattle.std.proofs.Common.{rules, eqb, ◌∙◌, sym, ap}
+use Rattle.std.proofs.lemmas.Iterator.Adapters.{option_map_id}
+use Rattle.refusals.specs.Searches.{first, when}
+use Rattle.refusals.proofs.Chained.{first_passing}
 use Rattle.plans.specs.Lent.{plan_in}
 use Rattle.plans.specs.Plans.{test}
-use Rattle.refusals.specs.Searches.{when}
-use Rattle.refusals.proofs.Firsts.{test_more, test_stops, first_ends}
 use Rattle.plans.proofs.Views.{letters_of}
 use Rattle.turns.proofs.find_letter.Goals as goal
-
-pub loop-letter-preserved : goal.loop-letter-preserved
-loop-letter-preserved g c =
-    test_more (λ i. eqb (test (plan_in g.T.Time.moment c.args.pair.now) i) c.args.point) (λ i. i) c.loop-letter.letter c.loop-letter.invariant (sym (ne_eqb _ _ (λ e. c.if-point.false (c.point.ensures ∙ e))))
-
-pub returns-then-point : goal.returns-then-point
-returns-then-point g c =
-    let pair = c.args.pair.now in
-    test_stops (λ i. eqb (test (plan_in g.T.Time.moment c.args.pair.now) i) c.args.point) (λ i. i) _ _ c.loop-letter.letter (c.letters-letter-end.ensures ∙ letters_of g.T.Time.moment pair.head.now pair.limits.now) c.loop-letter-test.true c.loop-letter.invariant (sym (eq-eqb _ _ (sym c.point.ensures ∙ c.if-point.true)))
 
 pub returns : goal.returns
 returns g c =
     let pair = c.args.pair.now in
-    first_ends (λ i. when (eqb (test (plan_in g.T.Time.moment c.args.pair.now) i) c.args.point) i) _ _ c.loop-letter.letter (c.letters-letter-end.ensures ∙ letters_of g.T.Time.moment pair.head.now pair.limits.now) c.loop-letter.auto.letter-end c.loop-letter-test.false c.loop-letter.invariant
+    let is_point = λ (i : _). eqb (test (plan_in g.T.Time.moment pair) i) c.args.point in
+    sym (option_map_id c.find.result)
+    ∙ first_passing _ _ (search rules) is_point (λ i. i) c.letters.result (λ i a h k. search rules) _ c.find.ensures.runs
+    ∙ ap (λ n. first n (λ i. when (is_point i) i)) (c.letters.ensures ∙ letters_of g.T.Time.moment pair.head.now pair.limits.now)
