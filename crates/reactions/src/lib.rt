@@ -11,7 +11,7 @@ ghost use Rattle.offences.specs.Verdicts.{acts_early, alike, alike_in, early_bet
 use offences::{Offence, find_break};
 use plans::Pair;
 use rules::Rule;
-use sets::has_letter;
+use sets::Set;
 use time_rules::is_same;
 use times::Time;
 
@@ -80,7 +80,7 @@ impl<T: Time, R: Rule> Trial<'_, T, R> {
     {
         let seen = self.is_seen_in(a, at, letter);
         seen == self.is_seen_in(b, at, letter)
-            && (!seen || has_letter(a, letter) == has_letter(b, letter))
+            && (!seen || Set::from(a).has(letter) == Set::from(b).has(letter))
     }
 
     // Whether a row sees a letter at a time.

@@ -6,7 +6,6 @@ ghost use Rattle.std.specs.Prelude.{◌≡◌, true};
 
 mod answers;
 mod faults;
-mod joining;
 mod opening;
 mod releasing;
 mod telling;
@@ -15,17 +14,19 @@ pub use answers::ReleasedStep;
 pub use faults::{HandedBack, ReleaseFault};
 pub use telling::void;
 
-// Its number, the number of points and letters it was opened for, and sets of bits: the points
-// released, the letters whose token is out, the letters told, and of those the ones told true.
+use sets::Set;
+
+// Its number, the number of points and letters it was opened for, and sets: the points released, the
+// letters whose token is out, the letters told, and of those the ones told true.
 #[derive(Drop)]
 pub struct Run {
     number: u32,
     points: u8,
     letters: u8,
-    released: u64,
-    out: u8,
-    told: u8,
-    outcomes: u8,
+    released: Set,
+    out: Set,
+    told: Set,
+    outcomes: Set,
 }
 
 // The right to tell a run the outcome of one test, once. It has to be spent: told or voided.

@@ -11,6 +11,7 @@ ghost use Rattle.runs.specs.Runs.{opened, opening};
 use crate::Run;
 use plans::Pair;
 use rules::Rule;
+use sets::Set;
 use times::Time;
 use verdicts::{PairFault, judge};
 
@@ -36,9 +37,9 @@ fn start<T: Time, R: Rule>(number: u32, pair: &Pair<T>, _rule: &R) -> Run
         number,
         points: pair.head.points(),
         letters: pair.head.letters(),
-        released: 0,
-        out: 0,
-        told: 0,
-        outcomes: 0,
+        released: Set::empty(),
+        out: Set::empty(),
+        told: Set::empty(),
+        outcomes: Set::empty(),
     }
 }

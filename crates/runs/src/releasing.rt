@@ -9,7 +9,6 @@ ghost use Rattle.runs.specs.Words.{ReleaseSays};
 
 use crate::answers::{ReleasedStep, Turn};
 use crate::faults::ReleaseFault;
-use crate::joining::{with_letter, with_point};
 use crate::{Run, Token};
 use plans::{Pair, check_pair};
 use rules::Rule;
@@ -53,7 +52,7 @@ impl Run {
         ensures answer { step_of T.Time.moment result ≡ step_at (plan_in T.Time.moment pair.now) (table_in T.Time.moment pair.now) self.old turn }
         ensures after { self.new ≡ stepped (plan_in T.Time.moment pair.now) self.old turn.point }
     {
-        self.released = with_point(self.released, turn.point);
+        self.released = self.released.with(turn.point);
         let token = self.hand_out(pair, turn.point);
         let at = pair.time(turn.row, turn.point);
         ReleasedStep {
@@ -69,7 +68,7 @@ impl Run {
         ensures after { self.new ≡ with_out (plan_in T.Time.moment pair.now) self.old point }
     {
         let letter = find_letter(pair, point)?;
-        self.out = with_letter(self.out, letter);
+        self.out = self.out.with(letter);
         Some(Token {
             run: self.number,
             letter,

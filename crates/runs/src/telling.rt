@@ -6,9 +6,7 @@ ghost use Rattle.runs.specs.Runs.{may_tell, telling, with_told};
 ghost use Rattle.runs.specs.Words.{TellSays};
 
 use crate::faults::HandedBack;
-use crate::joining::with_letter;
 use crate::{Run, Token};
-use sets::has_letter;
 
 impl Run {
     // Takes the outcome of the token's test, or hands the token back.
@@ -28,18 +26,18 @@ impl Run {
 
     fn is_tellable(&self, run: u32, letter: u8) -> bool
         ensures value { result ≡ may_tell self.now (record { run = run; letter = letter; spent = true }) }
-        ensures inside { result ≡ true → letter < 8 }
+        ensures inside { result ≡ true → letter < 64 }
     {
-        run == self.number && has_letter(self.out, letter) && !has_letter(self.told, letter)
+        run == self.number && self.out.has(letter) && !self.told.has(letter)
     }
 
     fn keep(&mut self, letter: u8, outcome: bool)
-        requires { letter < 8 }
+        requires { letter < 64 }
         ensures { self.new ≡ with_told self.old letter outcome }
     {
-        self.told = with_letter(self.told, letter);
+        self.told = self.told.with(letter);
         if outcome {
-            self.outcomes = with_letter(self.outcomes, letter);
+            self.outcomes = self.outcomes.with(letter);
         }
     }
 }
