@@ -1,6 +1,6 @@
 // What a head says.
 ghost use Rattle.std.specs.Prelude.{◌≡◌, ◌^◌};
-ghost use Rattle.heads.specs.Heads.{test_of, point_of};
+ghost use Rattle.heads.specs.Heads.{test_of, tests_of, point_of};
 ghost use Rattle.rules.specs.Meanings.{Same, named_rule};
 ghost use Rattle.rules.specs.Seen.{named_sees};
 
@@ -25,6 +25,13 @@ impl Head {
         ensures { result ≡ 2 ^ self.now.letters }
     {
         1 << self.letters
+    }
+
+    // The points of the tests, in the order of their letters.
+    pub fn tests(&self) -> &[u8]
+        ensures { result.now ≡ tests_of self.now }
+    {
+        &self.tests[..usize::from(self.letters)]
     }
 
     // The point of a test, by its letter.
