@@ -3,7 +3,7 @@ use Rattle.std.proofs.Common.{◌≡◌, ℕ, ◌^◌, ◌<◌, ◌≤◌, List,
 use lib.Pow.{pow-lt}
 use Rattle.std.proofs.lemmas.Bool.{leb-true}
 use Rattle.refusals.specs.Answers.{Answer, given, refused}
-use Rattle.fields.specs.Readings.{AllRead}
+use Rattle.fields.specs.Readings.{AllRead, end_field}
 use Rattle.fields.specs.Readings as fields
 use Rattle.fields.proofs.Laid.{kept_right, length-laid}
 use Rattle.fields.proofs.Readings as readings
@@ -11,7 +11,6 @@ use Rattle.times.specs.declared.codings.Kind.{Kind}
 use Rattle.times.specs.Coding.{time_at}
 use Rattle.times.specs.Moments.{Moment}
 use Rattle.heads.specs.declared.Head.{Head}
-use Rattle.fields.specs.Readings.{end_field}
 use Rattle.table_files.specs.Layouts.{table_size, time_place, table_length, header_fields, time_fields, body_fields}
 use Rattle.table_files.specs.Readings.{times_in, counted, read_table, ReadSays, RefusesExactly}
 

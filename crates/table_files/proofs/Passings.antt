@@ -1,7 +1,6 @@
 -- A search by number over fields that are laid end to end.
-use Rattle.std.proofs.Common.{◌≡◌, ℕ, zero, suc, ◌<◌, List, ◌++◌, Some, None, Option, Result, sym, refl, ◌∙◌}
+use Rattle.std.proofs.Common.{◌≡◌, ℕ, zero, suc, ◌<◌, List, ◌++◌, Some, None, Option, Result, IsErr, sym, refl, ◌∙◌}
 use Rattle.std.specs.Result.{result_from_control_flow, IsErrAnd}
-use Rattle.std.proofs.Common.{IsErr}
 use Rattle.std.specs.Iterator.Runs.{SomeRun, IsTryForEachRun, CallKeepsClosure}
 use Rattle.std.specs.declared.ops.Range.{Range}
 use Rattle.std.proofs.iter.Yields.{nat_range_steps}

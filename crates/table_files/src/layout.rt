@@ -15,6 +15,7 @@ pub(crate) fn table_size(head: &Head) -> usize
 }
 
 // The place of the time with a number. That of the first time that is not there is the file's length.
+// The bound stays a `requires`: each caller knows it of another number, and a type for such a number is no plainer.
 pub(crate) fn time_place<T: Time>(number: usize) -> usize
     requires { number < 2 ^ 32 }
     ensures { result ≡ time_place T.Time.kind number }
