@@ -1,4 +1,4 @@
-// What is written: the head, the limits and the names of a plan, with no more limits than a file counts.
+// What is written: the head, the limits and the names of a plan. The limits are not more than a plan may have.
 ghost use Rattle.std.specs.Prelude.{◌≤◌, length};
 
 use heads::Head;
