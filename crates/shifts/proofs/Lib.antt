@@ -1,0 +1,4 @@
+pub mod Checked
+pub mod Filled
+pub mod Passing
+pub mod Timed

@@ -5,11 +5,11 @@ use Rattle.plans.specs.Plans.{letters}
 use Rattle.plans.proofs.Views.{letters_of}
 use Rattle.shift_theory.specs.Lent.{round_in}
 use Rattle.shift_theory.proofs.Outlines.{no_refusal, shifted_is_head, outline_is}
-use Rattle.shifts.proofs.filling.shifted_head.Goals as goal
+use Rattle.shifts.proofs.kept.KeptPair.shifted_head.Goals as goal
 
 pub unreachable-requires : goal.unreachable-requires
 unreachable-requires g c =
-    let pair = c.args.pair.now in
+    let pair = c.args.self.now.pair in
     let head = pair.head.now in
     let p = plan_in g.T.Time.moment pair in
     let k = letters_of g.T.Time.moment head pair.limits.now in
@@ -20,7 +20,7 @@ unreachable-requires g c =
 
 pub returns : goal.returns
 returns g c =
-    let pair = c.args.pair.now in
+    let pair = c.args.self.now.pair in
     let head = pair.head.now in
     let p = plan_in g.T.Time.moment pair in
     let k = letters_of g.T.Time.moment head pair.limits.now in

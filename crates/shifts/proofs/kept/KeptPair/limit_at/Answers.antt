@@ -1,21 +1,14 @@
 use Rattle.std.proofs.Common.{◌+◌, ◌-◌, ◌/◌, length, ap, ◌∙◌, arith}
 use Rattle.plans.specs.Lent.{plan_in}
-use Rattle.plans.proofs.Views.{letters_of, limits_of, limit_there}
+use Rattle.plans.proofs.Views.{letters_of, limits_of}
 use Rattle.shift_theory.specs.Lent.{delay_in}
-use Rattle.shift_theory.proofs.Filling.{old_at, letter_below, there_at, back_at, as_bound, as_opposite, same_limit}
-use Rattle.shifts.proofs.filling.limit_at.Goals as goal
-
-pub returns-then-j-old : goal.returns-then-j-old
-returns-then-j-old g c =
-    let of = g.T.Time.moment in
-    let pair = c.args.pair.now in
-    let old = limit_there of pair.head.now pair.limits.now c.args.j c.index-pair-j.result c.if-j-old.true in
-    old ∙ old_at (plan_in of pair) (delay_in pair) c.args.j (omega (arith, limits_of of pair.head.now pair.limits.now))
+use Rattle.shift_theory.proofs.Filling.{letter_below, there_at, back_at, as_bound, as_opposite, same_limit}
+use Rattle.shifts.proofs.kept.KeptPair.limit_at.Goals as goal
 
 pub overflow_cast-letter : goal.overflow_cast-letter
 overflow_cast-letter g c =
     let of = g.T.Time.moment in
-    let pair = c.args.pair.now in
+    let pair = c.args.self.now.pair in
     let m = length pair.limits.now in
     let below = letter_below (plan_in of pair) (delay_in pair) m (limits_of of pair.head.now pair.limits.now) c.args.j c.if-j-old.false c.requires in
     omega (arith, below, letters_of of pair.head.now pair.limits.now, pair.head.now.lettered)
@@ -23,7 +16,7 @@ overflow_cast-letter g c =
 pub overflow_add-new : goal.overflow_add-new
 overflow_add-new g c =
     let of = g.T.Time.moment in
-    let pair = c.args.pair.now in
+    let pair = c.args.self.now.pair in
     let m = length pair.limits.now in
     let below = letter_below (plan_in of pair) (delay_in pair) m (limits_of of pair.head.now pair.limits.now) c.args.j c.if-j-old.false c.requires in
     omega (arith, below, letters_of of pair.head.now pair.limits.now, pair.head.now.lettered, pair.head.now.few)
@@ -31,7 +24,7 @@ overflow_add-new g c =
 pub returns-then-j-old-eq0 : goal.returns-then-j-old-eq0
 returns-then-j-old-eq0 g c =
     let of = g.T.Time.moment in
-    let pair = c.args.pair.now in
+    let pair = c.args.self.now.pair in
     let m = length pair.limits.now in
     let at = there_at (plan_in of pair) (delay_in pair) m (limits_of of pair.head.now pair.limits.now) c.args.j c.if-j-old.false c.requires c.if-j-old-eq0.true in
     let new = ap (λ n. n + (c.args.j - m) / 2) c.points.ensures in
@@ -41,7 +34,7 @@ returns-then-j-old-eq0 g c =
 pub returns-else-j-old-eq0 : goal.returns-else-j-old-eq0
 returns-else-j-old-eq0 g c =
     let of = g.T.Time.moment in
-    let pair = c.args.pair.now in
+    let pair = c.args.self.now.pair in
     let m = length pair.limits.now in
     let at = back_at (plan_in of pair) (delay_in pair) m (limits_of of pair.head.now pair.limits.now) c.args.j c.if-j-old.false c.requires c.if-j-old-eq0.false in
     let new = ap (λ n. n + (c.args.j - m) / 2) c.points.ensures in
