@@ -1,8 +1,8 @@
 // The limits, the times and the head of a shifted pair.
-ghost use Rattle.std.specs.Prelude.{◌≡◌, ℕ, ◌<◌, ◌≤◌, map, length, take, drop, slice_index_or};
+ghost use Rattle.std.specs.Prelude.{◌≡◌, ℕ, ◌<◌, ◌≤◌, ◌+◌, map, length, take, drop, slice_index_or, pos, neg_ℤ};
 ghost use Rattle.heads.specs.Heads.{outline_of};
 ghost use Rattle.plans.specs.Lent.{plan_in, table_in};
-ghost use Rattle.plans.specs.Plans.{limit_at, origin};
+ghost use Rattle.plans.specs.Plans.{letters, limit_at, origin, test};
 ghost use Rattle.plans.specs.Views.{limit_of};
 ghost use Rattle.shift_theory.specs.Lent.{delay_in, round_in};
 ghost use Rattle.shift_theory.specs.Shifts.{limits_size, plain_limit, points_size, shifted_limits, shifted_moment, shifted_outline, shifted_plan, shifted_table, times_size};
@@ -27,21 +27,37 @@ impl<T: Time> KeptPair<'_, T> {
         requires { j < limits_size (plan_in T.Time.moment self.now.pair) }
         ensures { limit_of T.Time.moment result ≡ limit_at (shifted_plan (plan_in T.Time.moment self.now.pair) (delay_in self.now.pair)) j }
     {
-        let head = self.pair.head;
         let limits = self.pair.limits;
-        let old = limits.len();
-        if j < old {
+        if j < limits.len() {
             return limits[j];
         }
-        let letter = ((j - old) / 2) as u8;
-        let test = head.point(letter);
-        let new = head.points() + letter;
-        let delay = head.delay() as i32;
-        if (j - old) % 2 == 0 {
-            plain_limit(test, new, delay)
+        let past = j - limits.len();
+        let letter = (past / 2) as u8;
+        if past % 2 == 0 {
+            self.limit_to(letter)
         } else {
-            plain_limit(new, test, -delay)
+            self.limit_from(letter)
         }
+    }
+
+    // The new test comes at most the delay after its test.
+    fn limit_to(&self, letter: u8) -> Limit<T>
+        requires { letter < letters (plan_in T.Time.moment self.now.pair) }
+        ensures { limit_of T.Time.moment result ≡ plain_limit (test (plan_in T.Time.moment self.now.pair) letter) (self.now.pair.head.now.points + letter) (pos (delay_in self.now.pair)) }
+    {
+        let head = self.pair.head;
+        let (test, new) = (head.point(letter), head.points() + letter);
+        plain_limit(test, new, head.delay() as i32)
+    }
+
+    // It comes at least the delay after it.
+    fn limit_from(&self, letter: u8) -> Limit<T>
+        requires { letter < letters (plan_in T.Time.moment self.now.pair) }
+        ensures { limit_of T.Time.moment result ≡ plain_limit (self.now.pair.head.now.points + letter) (test (plan_in T.Time.moment self.now.pair) letter) (neg_ℤ (pos (delay_in self.now.pair))) }
+    {
+        let head = self.pair.head;
+        let (test, new) = (head.point(letter), head.points() + letter);
+        plain_limit(new, test, -(head.delay() as i32))
     }
 
     pub(crate) fn fill_times(&self, times: &mut [T])

@@ -1,4 +1,4 @@
-use Rattle.std.proofs.Common.{rules, ◌<◌, arith}
+use Rattle.std.proofs.Common.{rules, arith}
 use Rattle.plans.specs.Lent.{plan_in}
 use Rattle.plans.specs.Plans.{origin}
 use Rattle.plans.specs.Views.{limit_of}
@@ -13,4 +13,4 @@ returns-clause-front g c =
     let of = g.T.Time.moment in
     let p = plan_in of c.args.self.now.pair in
     let d = delay_in c.args.self.now.pair in
-    filled (limit_of of) (record { from = 0; to = 0; wanted = 0; unwanted = 0; bound = origin }) _ c.fill.new.items (shifted_limits p d) (length-limits p d) (search rules) (λ i e l. let below : i < c.count_limits.result = omega (arith, c.count_limits.ensures) in search (rules, c.fill.ensures.front i e below))
+    filled (limit_of of) (record { from = 0; to = 0; wanted = 0; unwanted = 0; bound = origin }) _ c.fill.new.items (shifted_limits p d) (length-limits p d) (search rules) (λ i e l. search (rules, c.fill.ensures.front i e (omega (arith, c.count_limits.ensures))))

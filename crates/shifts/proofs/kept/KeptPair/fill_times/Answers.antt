@@ -1,4 +1,4 @@
-use Rattle.std.proofs.Common.{rules, ◌<◌, arith}
+use Rattle.std.proofs.Common.{rules, arith}
 use Rattle.plans.specs.Lent.{plan_in, table_in}
 use Rattle.plans.specs.Plans.{origin}
 use Rattle.shift_theory.specs.Lent.{delay_in}
@@ -13,4 +13,4 @@ returns-clause-front g c =
     let p = plan_in of c.args.self.now.pair in
     let ts = table_in of c.args.self.now.pair in
     let d = delay_in c.args.self.now.pair in
-    filled of origin _ c.fill.new.items (shifted_table p ts d) (length-table p d ts) (search rules) (λ i e l. let below : i < c.count_times.result = omega (arith, c.count_times.ensures) in search (rules, c.fill.ensures.front i e below))
+    filled of origin _ c.fill.new.items (shifted_table p ts d) (length-table p d ts) (search rules) (λ i e l. search (rules, c.fill.ensures.front i e (omega (arith, c.count_times.ensures))))
