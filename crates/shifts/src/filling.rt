@@ -1,5 +1,6 @@
 // The limits, the times and the head of a shifted pair.
 ghost use Rattle.std.specs.Prelude.{◌≡◌, ℕ, ◌<◌, ◌≤◌, ◌+◌, map, length, take, drop, slice_index_or, pos, neg_ℤ};
+ghost use Rattle.std.specs.List.{range_with_len};
 ghost use Rattle.heads.specs.Heads.{outline_of};
 ghost use Rattle.plans.specs.Lent.{plan_in, table_in};
 ghost use Rattle.plans.specs.Plans.{letters, limit_at, origin, test};
@@ -94,13 +95,21 @@ impl<T: Time> KeptPair<'_, T> {
         requires { points_size (plan_in T.Time.moment self.now.pair) ≤ 48 }
         ensures { outline_of result ≡ shifted_outline (plan_in T.Time.moment self.now.pair) (round_in self.now.pair) }
     {
-        let n = self.pair.head.points();
-        let tests = [n, n + 1, n + 2, n + 3, n + 4, n + 5];
-        let tests = &tests[0..usize::from(self.pair.head.letters())];
-        let Ok(head) = Head::new(self.count_points(), tests, self.pair.head.round(), 0) else {
+        let old = self.pair.head;
+        let points = self.next_points();
+        let tests = &points[..usize::from(old.letters())];
+        let Ok(head) = Head::new(self.count_points(), tests, old.round(), 0) else {
             unreachable()
         };
         head
+    }
+
+    // The six points after the old ones.
+    fn next_points(&self) -> [u8; 6]
+        ensures { result ≡ range_with_len self.now.pair.head.now.points 6 }
+    {
+        let first = self.pair.head.points();
+        std::array::from_fn(|i| first + i as u8)
     }
 }
 

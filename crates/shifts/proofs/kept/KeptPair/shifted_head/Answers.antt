@@ -14,7 +14,7 @@ unreachable-requires g c =
     let p = plan_in g.T.Time.moment pair in
     let k = letters_of g.T.Time.moment head pair.limits.now in
     let few : letters p ≤ 6 = omega (arith, k, head.lettered) in
-    let is = outline_is p _ _ _ _ (round_in pair) c.count_points.ensures c.points-n.ensures (c.from.ensures ∙ c.letters.ensures ∙ k) c.round.ensures few in
+    let is = outline_is p _ _ _ (round_in pair) _ c.count_points.ensures c.next_points-points.ensures (c.from.ensures ∙ c.letters.ensures ∙ k) c.round.ensures few in
     let made = shifted_is_head p (round_in pair) head.some c.requires few head.rounded in
     no_refusal _ _ (subst IsHead (sym is) made) c.in_default.ensures.says
 
@@ -25,4 +25,4 @@ returns g c =
     let p = plan_in g.T.Time.moment pair in
     let k = letters_of g.T.Time.moment head pair.limits.now in
     let few : letters p ≤ 6 = omega (arith, k, head.lettered) in
-    c.in-Ok.ensures.says.1 ∙ outline_is p _ _ _ _ (round_in pair) c.count_points.ensures c.points-n.ensures (c.from.ensures ∙ c.letters.ensures ∙ k) c.round.ensures few
+    c.in-Ok.ensures.says.1 ∙ outline_is p _ _ _ (round_in pair) _ c.count_points.ensures c.next_points-points.ensures (c.from.ensures ∙ c.letters.ensures ∙ k) c.round.ensures few
