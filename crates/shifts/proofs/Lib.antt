@@ -1,0 +1,5 @@
+pub mod Checked
+pub mod Counting
+pub mod Filled
+pub mod Passing
+pub mod Timed
