@@ -10,7 +10,7 @@ ghost use Rattle.plan_records.specs.Sorts.{meant};
 
 use crate::bounds::{check_bound, width_in};
 use crate::faults::RecordFault;
-use crate::names::{check_end, name_size_at};
+use crate::names::{NameAt, check_end};
 use files::headers::PlanHeader;
 use heads::is_test;
 use plans::{Limit, is_fitting};
@@ -67,7 +67,13 @@ fn name_size(file: &[u8], points: u8, number: usize, at: usize) -> Result<usize,
     requires { number < points }
     ensures { answer_of (λ n. n) record_refusal result ≡ checked file.now (name_fields file.now first_place number at) (name_size file.now at) }
 {
-    name_size_at(file, 17, number as u8, at)
+    let name = NameAt {
+        bytes: file,
+        start: 17,
+        number: number as u8,
+        at,
+    };
+    name.size()
 }
 
 fn test_size(
