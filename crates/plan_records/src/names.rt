@@ -84,11 +84,10 @@ impl NameAt<'_> {
     fn length(&self) -> Result<u8, RecordFault>
         ensures { answer_of (λ x. x) record_refusal result ≡ field_answer self.now.bytes.now (length_field self.now.bytes.now self.now.at) }
     {
-        if self.at >= self.bytes.len() {
+        let Some(&length) = self.bytes.get(self.at) else {
             return Err(RecordFault::Ended(self.bytes.len()));
-        }
-        let length = self.bytes[self.at];
-        if length < 1 || length > 16 {
+        };
+        if !(1..=16).contains(&length) {
             return Err(RecordFault::Name(self.at));
         }
         Ok(length)
@@ -100,7 +99,7 @@ impl NameAt<'_> {
         ensures { answer_of (λ u. u) record_refusal result ≡ passing self.now.bytes.now (name_field self.now.bytes.now self.now.start self.now.number self.now.at ∷ []) }
     {
         let size = 1 + usize::from(byte_at(self.bytes, self.at));
-        if self.at > self.bytes.len() || self.bytes.len() - self.at < size {
+        if rest_from(self.bytes, self.at).len() < size {
             return Err(RecordFault::Ended(self.bytes.len()));
         }
         if !self.is_printable() || !self.is_new() {
