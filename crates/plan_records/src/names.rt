@@ -55,7 +55,7 @@ fn byte_at(bytes: &[u8], at: usize) -> u8
 }
 
 // The bytes from a place on, and none past the end.
-fn rest_from(bytes: &[u8], at: usize) -> &[u8]
+pub(crate) fn rest_from(bytes: &[u8], at: usize) -> &[u8]
     ensures { result.now ≡ drop at bytes.now }
 {
     bytes.get(at..).unwrap_or(&[])
