@@ -1,4 +1,4 @@
--- Loops over names.
+-- Names, as loops and slices find them.
 use Rattle.std.proofs.Common.{◌≡◌, ℕ, ◌+◌, ◌-◌, ◌<◌, ◌≤◌, Bool, true, false, not, eqb, leb, MatchBool, List, ◌++◌, length, get_or, take, drop, sym, refl, ap, ◌∙◌, subst, ⊎_elim, add-one, arith, length-drop}
 use Rattle.std.specs.List.{AllWithin, HoldsAt, starts_with}
 use Rattle.std.proofs.lemmas.List.{length-take-le, take-append-drop, get_or-take, get_or-drop, get_or_past, get_or_append_left, ext_get_or}
@@ -15,10 +15,7 @@ use Rattle.refusals.specs.Searches.{every}
 use Rattle.refusals.proofs.Firsts.{every_true, every_fails, every_stops, true_every}
 use Rattle.plan_records.specs.Names.{name_size, name_place, same_name, new_name, printable, name_fields}
 
-pub equal_bytes : (a b : ℕ) → a ≡ b → eqb a b ≡ true
-equal_bytes a b h = grind (arith, nat_tests)
-
-pub other_bytes : (a b : ℕ) → (a ≡ b → ⊥) → eqb a b ≡ false
+other_bytes : (a b : ℕ) → (a ≡ b → ⊥) → eqb a b ≡ false
 other_bytes a b h = grind (arith, nat_tests)
 
 module _ (bytes : List ℕ) where

@@ -1,10 +1,10 @@
 -- Records at a place, and a reader that passes them.
-use Rattle.std.proofs.Common.{◌≡◌, ℕ, ◌+◌, ◌<◌, ◌≤◌, Bool, true, false, cond, ltb, List, length, refl, ap, ◌∙◌, arith}
+use Rattle.std.proofs.Common.{◌≡◌, ℕ, ◌+◌, ◌<◌, ◌≤◌, Bool, true, false, cond, ltb, List, length, refl, ap, arith}
 use Rattle.std.proofs.lemmas.Bool.{ltb-true}
-use Rattle.refusals.specs.Answers.{Answer, given, refused}
+use Rattle.refusals.specs.Answers.{Answer, refused}
 use Rattle.refusals.specs.declared.Refusal.{Refusal}
 use Rattle.fields.specs.Fields.{checked, AllKept}
-use Rattle.fields.proofs.Chains.{passed, stopped, judged}
+use Rattle.fields.proofs.Chains.{stopped}
 use Rattle.files.specs.declared.headers.PlanHeader.{PlanHeader}
 use Rattle.plan_records.specs.Records.{Sort, a_name, a_test, a_limit, the_end, record_count, sort_of, fields_of, size_of, part_of}
 use Rattle.plan_records.specs.Readers.{next_answer, after}
@@ -26,19 +26,6 @@ module _ (header : PlanHeader) (file : List ℕ) where
   record_inside a_test r at h = omega (arith, h.0.there)
   record_inside a_limit r at h = omega (arith, h.1.0.there)
   record_inside the_end r at h = omega (arith, h.0.there)
-
-  module _ (r at size : ℕ) (h : given size ≡ checked file (fields_of header file (sort_of header r) r at) (size_of header file (sort_of header r) at)) where
-    pub size_is : size ≡ size_of header file (sort_of header r) at
-    size_is = (passed file (fields_of header file (sort_of header r) r at) (size_of header file (sort_of header r) at) size (tt {0}) h).0
-
-    pub inside : at + size ≤ length file
-    inside =
-        let kept = judged file (fields_of header file (sort_of header r) r at) (size_of header file (sort_of header r) at) (given size) h in
-        omega (arith, size_is, record_inside (sort_of header r) r at kept)
-
-    pub gives : (s : Sort) → s ≡ sort_of header r → given (part_of header file s at) ≡ checked file (fields_of header file (sort_of header r) r at) (part_of header file (sort_of header r) at)
-    gives s e =
-        ap (λ s. given (part_of header file s at)) e ∙ (passed file (fields_of header file (sort_of header r) r at) (size_of header file (sort_of header r) at) size (part_of header file (sort_of header r) at) h).1
 
 -- what a reader gives and where it stands then
 module _ (r : Reader) where

@@ -64,6 +64,7 @@ impl<'a> Reader<'a> {
         ensures answer { answer_of (option_map shown) record_refusal result ≡ next_answer self.old }
         ensures moved { self.new ≡ after self.old (next_answer self.old) }
     {
+        // size and next both match the sort: a match that gave both would cut the part in each arm
         let end = self.place + self.size()?;
         let part = &self.file[self.place..end];
         let record = match self.sort() {
