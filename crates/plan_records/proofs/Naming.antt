@@ -9,7 +9,7 @@ use Rattle.refusals.specs.Answers.{given, refused}
 use Rattle.refusals.specs.declared.Refusal.{Refusal}
 use Rattle.fields.specs.Fields.{between, checked}
 use Rattle.fields.specs.Laid.{passing}
-use Rattle.fields.proofs.Chains.{passed, stopped, judged}
+use Rattle.fields.proofs.Chains.{passed, stopped}
 use Rattle.fields.proofs.Laid.{yes}
 use Rattle.refusals.specs.Searches.{every}
 use Rattle.refusals.proofs.Firsts.{every_true, every_fails, every_stops, true_every}
@@ -118,10 +118,3 @@ module _ (bytes : List ℕ) where
 
       pub name_stops : (r : Refusal) → refused r ≡ checked bytes (name_fields bytes start i at) (name_size bytes at) → refused r ≡ passing bytes (name_fields bytes start i (name_place bytes start i))
       name_stops r h = subst (λ q. refused r ≡ passing bytes (name_fields bytes start i q)) e (stopped bytes (name_fields bytes start i at) (name_size bytes at) tt r h)
-
-  -- a name that is given lies in the bytes
-  pub name_inside : (start i at size : ℕ) → given size ≡ checked bytes (name_fields bytes start i at) (name_size bytes at) → at + size ≤ length bytes
-  name_inside start i at size h =
-      let size_is = (passed bytes (name_fields bytes start i at) (name_size bytes at) size (tt {0}) h).0 in
-      let kept = judged bytes (name_fields bytes start i at) (name_size bytes at) (given size) h in
-      omega (arith, size_is, kept.1.0.there)

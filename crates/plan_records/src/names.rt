@@ -22,6 +22,7 @@ fn names_end(names: &[u8], points: u8) -> Result<usize, RecordFault>
     ensures { answer_of (λ n. n) record_refusal result ≡ checked names.now (names_fields names.now 0 points) (name_place names.now 0 points) }
 {
     let mut at = 0;
+    // a fold that stops at a fault would need a function for its step, and be no plainer
     for number in 0..points {
         let name = NameAt {
             bytes: names,
@@ -127,7 +128,7 @@ impl NameAt<'_> {
         let size = 1 + usize::from(self.bytes[self.at]);
         let name = &self.bytes[self.at..self.at + size];
         let mut earlier = usize::from(self.start);
-        // each place follows from the byte at the one before it, so a fold over the numbers would carry both place and answer
+        // a name's place follows from the name before it: a chain would have to carry the place along
         for _i in 0..self.number {
             if rest_from(self.bytes, earlier).starts_with(name) {
                 return false;

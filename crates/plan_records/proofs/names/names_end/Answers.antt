@@ -4,7 +4,7 @@ use Rattle.refusals.specs.Answers.{given}
 use Rattle.fields.proofs.Chains.{passed, stopped}
 use Rattle.fields.proofs.Laid.{passes, stops, ends}
 use Rattle.plan_records.specs.Names.{name_fields, name_place, names_fields}
-use Rattle.plan_records.proofs.Naming.{name_passes, name_stops, name_inside}
+use Rattle.plan_records.proofs.Naming.{name_passes, name_stops}
 use Rattle.plan_records.proofs.names.names_end.Goals as goal
 
 pub returns-in_err-at : goal.returns-in_err-at
@@ -14,11 +14,6 @@ returns-in_err-at c =
     let here = name_stops names 0 c.loop-number.number c.loop-number.at c.loop-number.invariant.0 _ c.in_err-at.ensures in
     let all = stops names (λ i. name_fields names 0 i (name_place names 0 i)) c.args.points c.args.points c.loop-number.number _ refl c.loop-number-test.true c.loop-number.invariant.1 here in
     rw (p.1, p.2) (stopped names (names_fields names 0 c.args.points) tt (name_place names 0 c.args.points) _ all)
-
-pub overflow_add-at : goal.overflow_add-at
-overflow_add-at c =
-    let inside = name_inside c.args.names.now 0 c.loop-number.number c.loop-number.at _ c.in_ok-at.ensures in
-    omega (arith, inside)
 
 pub loop-number-preserved : goal.loop-number-preserved
 loop-number-preserved c =
