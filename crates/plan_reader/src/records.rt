@@ -68,6 +68,7 @@ impl<'a> Records<'a> {
         ensures { answer_of (λ q. q) record_refusal result ≡ checked self.now.reader.file.now (laid count (record_fields self.now.reader.header self.now.reader.file.now)) (stood self.now.reader count) }
     {
         let mut reader = self.reader;
+        // no plainer as a chain: its closure would change the reader that is handed out
         for _i in 0..count {
             reader.next()?;
         }

@@ -6,11 +6,8 @@ use Rattle.fields.proofs.Chains.{passed, stopped}
 use Rattle.fields.proofs.Laid.{passes, stops, ends}
 use Rattle.plan_records.specs.Readers.{stood}
 use Rattle.plan_records.specs.Records.{record_fields}
-use Rattle.plan_contents.proofs.Steps.{stood_first, steps, halts}
+use Rattle.plan_contents.proofs.Steps.{steps, halts}
 use Rattle.plan_reader.proofs.records.Records.pass.Goals as goal
-
-pub loop-i-init : goal.loop-i-init
-loop-i-init c = (stood_first c.args.self.now.reader c.args.self.now.none c.args.self.now.first, refl)
 
 pub returns-in_err-next : goal.returns-in_err-next
 returns-in_err-next c =
