@@ -6,16 +6,13 @@ use Rattle.fields.proofs.Chains.{passed, stopped}
 use Rattle.fields.proofs.Laid.{passes, stops, ends}
 use Rattle.plan_records.specs.Readers.{stood}
 use Rattle.plan_records.specs.Records.{record_fields}
-use Rattle.plan_contents.proofs.Steps.{stood_first, steps, halts}
-use Rattle.plan_reader.proofs.checks.pass.Goals as goal
-
-pub loop-i-init : goal.loop-i-init
-loop-i-init c = (stood_first c.args.reader c.requires.0 c.requires.1.0, refl)
+use Rattle.plan_contents.proofs.Steps.{steps, halts}
+use Rattle.plan_reader.proofs.records.Records.pass.Goals as goal
 
 pub returns-in_err-next : goal.returns-in_err-next
 returns-in_err-next c =
     let p = err_from_is_err_and c.from_residual.result c.from_residual.ensures.1 in
-    let r = c.args.reader in
+    let r = c.args.self.now.reader in
     let file = r.file.now in
     let fields = laid c.args.count (record_fields r.header file) in
     let here = halts r c.loop-i._i _ c.loop-i.invariant.0 _ c.in_err-next.ensures.answer in
@@ -24,16 +21,16 @@ returns-in_err-next c =
 
 pub loop-i-preserved : goal.loop-i-preserved
 loop-i-preserved c =
-    let r = c.args.reader in
+    let r = c.args.self.now.reader in
     let file = r.file.now in
     let i = c.loop-i._i in
     let e = c.in_ok-next.ensures in
-    let s = steps r i _ c.loop-i.invariant.0 (omega (arith, c.requires.1.1, c.loop-i-test.true)) _ e.answer in
+    let s = steps r i _ c.loop-i.invariant.0 (omega (arith, c.requires, c.loop-i-test.true)) _ e.answer in
     (e.moved ∙ s.0, passes file (record_fields r.header file) i c.loop-i.invariant.1 s.1)
 
 pub returns : goal.returns
 returns c =
-    let r = c.args.reader in
+    let r = c.args.self.now.reader in
     let file = r.file.now in
     let n = c.args.count in
     let all = ends file (record_fields r.header file) n n c.loop-i._i refl c.loop-i.auto._i-end c.loop-i-test.false c.loop-i.invariant.1 in
