@@ -11,6 +11,7 @@ ghost use Rattle.shifts.specs.Faults.{shift_fault};
 use crate::faults::ShiftFault;
 use crate::kept::KeptPair;
 use plans::Pair;
+use refusals::check_room;
 use time_rules::is_table_time;
 use times::Time;
 
@@ -62,14 +63,7 @@ impl<T: Time> KeptPair<'_, T> {
     fn check_rooms(&self, limits_room: usize, times_room: usize) -> Result<(), ShiftFault>
         ensures { answer_of (λ u. u) shift_fault result ≡ unless (rooms_refusal (plan_in T.Time.moment self.now.pair) (table_in T.Time.moment self.now.pair) (delay_in self.now.pair) limits_room times_room) tt }
     {
-        let size = self.count_limits();
-        if limits_room < size {
-            return Err(ShiftFault::ShortLimits(size));
-        }
-        let size = self.count_times();
-        if times_room < size {
-            return Err(ShiftFault::ShortTimes(size));
-        }
-        Ok(())
+        check_room(limits_room, self.count_limits()).map_err(ShiftFault::ShortLimits)?;
+        check_room(times_room, self.count_times()).map_err(ShiftFault::ShortTimes)
     }
 }
