@@ -18,7 +18,7 @@ same_body r file e h =
 pub returns-in_err-records : goal.returns-in_err-records
 returns-in_err-records g c =
     let p = err_from_is_err_and c.from_residual.result c.from_residual.ensures.1 in
-    let e = open_stops g.T.Time.kind c.args.file.now c.args.room _ c.version_of.ensures _ c.in_err-records.ensures.answer in
+    let e = open_stops g.T.Time.kind c.args.file.now c.args.room _ c.kind.ensures _ c.in_err-records.ensures.answer in
     rw (p.1, p.2) (record { answer = e; known = tt })
 
 pub returns-in_err-check_room : goal.returns-in_err-check_room
@@ -26,7 +26,7 @@ returns-in_err-check_room g c =
     let p = err_from_is_err_and c.from_residual-in_err-check_room.result c.from_residual-in_err-check_room.ensures.1 in
     let kind = g.T.Time.kind in
     let file = c.args.file.now in
-    let o = opened kind file c.args.room _ c.version_of.ensures _ c.in_ok-records.ensures.answer in
+    let o = opened kind file c.args.room _ c.kind.ensures _ c.in_ok-records.ensures.answer in
     let size : c.from.result ≡ (header file).limits = c.from.ensures ∙ ap (λ h. h.limits) (c.header-header.ensures ∙ o.0) in
     let e = short kind file c.args.room o.1 _ size _ c.in_err-check_room.ensures in
     rw (p.1, p.2) (record { answer = e; known = tt })
@@ -36,7 +36,7 @@ returns-in_err-check g c =
     let p = err_from_is_err_and c.from_residual-in_err-check.result c.from_residual-in_err-check.ensures.1 in
     let kind = g.T.Time.kind in
     let file = c.args.file.now in
-    let o = opened kind file c.args.room _ c.version_of.ensures _ c.in_ok-records.ensures.answer in
+    let o = opened kind file c.args.room _ c.kind.ensures _ c.in_ok-records.ensures.answer in
     let size : c.from.result ≡ (header file).limits = c.from.ensures ∙ ap (λ h. h.limits) (c.header-header.ensures ∙ o.0) in
     let enough : yes ≡ room_answer c.args.room (header file).limits = c.in_ok-check_room.ensures ∙ ap (room_answer c.args.room) size in
     let e = records_stop kind file c.args.room o.1 enough _ (c.in_err-check.ensures ∙ same_body c.in_ok-records.records.reader file c.in_ok-records.ensures.same o.0) in
@@ -46,7 +46,7 @@ pub returns : goal.returns
 returns g c =
     let kind = g.T.Time.kind in
     let file = c.args.file.now in
-    let o = opened kind file c.args.room _ c.version_of.ensures _ c.in_ok-records.ensures.answer in
+    let o = opened kind file c.args.room _ c.kind.ensures _ c.in_ok-records.ensures.answer in
     let there = c.header-header.ensures ∙ o.0 in
     let size : c.from.result ≡ (header file).limits = c.from.ensures ∙ ap (λ h. h.limits) there in
     let enough : yes ≡ room_answer c.args.room (header file).limits = c.in_ok-check_room.ensures ∙ ap (room_answer c.args.room) size in
