@@ -83,6 +83,9 @@ fn plan_start(file: &[u8]) -> Result<(Kind, usize), HeaderFault>
     Ok((kind, place))
 }
 
+// The readers below take the file and a place, and no struct that moves along: its place before and after each field
+// would stand in every contract.
+
 // A count of one byte, from least to most.
 fn count_at(file: &[u8], at: usize, least: u8, most: u8) -> Result<u8, HeaderFault>
     ensures { answer_of (λ x. x) header_refusal result ≡ field_answer file.now (count_field at 1 least most) }
