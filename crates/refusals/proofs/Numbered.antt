@@ -1,23 +1,15 @@
 -- What `try_for_each` over the numbered elements of a slice answers: the first of a search by number.
-use Rattle.std.proofs.Common.{◌≡◌, ℕ, ◌+◌, ◌<◌, ◌≤◌, List, [], ◌∷◌, map, length, slice_index_or, Bool, true, false, Some, None, Option, IfSome, IsSomeAnd, MatchBool, Ok, Err, Result, IsErr, sym, refl, ap, ◌∙◌, subst, arith, ◌⊎◌, inl, inr}
+use Rattle.std.proofs.Common.{◌≡◌, ℕ, ◌+◌, ◌<◌, ◌≤◌, List, map, length, slice_index_or, Some, None, Option, IfSome, IsSomeAnd, Ok, Err, Result, IsErr, sym, refl, ap, ◌∙◌, subst, arith, inl, inr}
 use Rattle.std.specs.Option.{option_map}
 use Rattle.std.specs.Result.{result_from_control_flow, IsErrAnd}
 use Rattle.std.specs.Iterator.Runs.{Run, SomeRun, IsTryForEachRun, CallKeepsClosure, ItemsMapTo}
 use denote.Param.Members.{Mut, Called}
 use denote.Ref.{Bor}
-use Rattle.refusals.specs.Answers.{answer_of, unless, refused}
+use Rattle.refusals.specs.Answers.{answer_of, unless}
 use Rattle.refusals.specs.declared.Refusal.{Refusal}
 use Rattle.refusals.specs.Searches.{first}
 use Rattle.refusals.proofs.Firsts.{none_first, first_found, some_none}
-use Rattle.heads.proofs.Outlines.{none_refused}
-
-there : {A : Type 0} (xs : List A) (i : ℕ) → i < length xs → A
-there [] i h = absurd (omega arith)
-there (x ∷ xs) i h = x
-
-some_refused : (o : Option Refusal) (q : Refusal) → refused q ≡ unless {X = Unit {0}} o tt → o ≡ Some q
-some_refused None q h = cc
-some_refused (Some r) q h = let e : q ≡ r = cc in ap Some (sym e)
+use Rattle.refusals.proofs.Chained.{there, decided, refused_by, unless_given, unless_refused}
 
 if_and : {X : Type 0} (o : Option X) (P : X → Type 0) → IsSomeAnd o P → IfSome o P
 if_and None P h = absurd h
@@ -31,14 +23,6 @@ module _ {A : Type 0} (xs : List A) (P : ℕ × Bor A → Type 0) (i : ℕ) wher
   read : i < length xs → (o : Option (ℕ × Bor A)) → IfSome o (λ x. x.0 ≡ i) → ((d : A) → option_map (λ y. y.now) (option_map (λ x. x.1) o) ≡ Some (slice_index_or xs i d)) → IfSome o P → Said
   read l None n e h = absurd (some_none _ (sym (e (there xs i l))))
   read l (Some x) n e h = (x.1, subst (λ k. P (k, x.1)) n h, λ d. let q : Some x.1.now ≡ Some (slice_index_or xs i d) = e d in cc)
-
-decided : (b : Bool) (P Q : Type 0) → MatchBool b P Q → ((b ≡ true) × P) ⊎ Q
-decided true P Q h = inl (refl, h)
-decided false P Q h = inr h
-
-refused_by : {E : Type 0} (numbering : E → Refusal) (r : Result (Unit {0}) E) (e : E) → IsErr r × IsErrAnd r (λ y. y ≡ e) → answer_of (λ u. u) numbering r ≡ refused (numbering e)
-refused_by numbering (Ok x) e h = absurd h.1
-refused_by numbering (Err y) e h = ap (λ z. refused (numbering z)) h.1
 
 module _ {A F E : Type 0} (g : Mut F ((ℕ × Bor A) × Unit {0}) (Result (Unit {0}) E)) (f : F) where
   abbrev Gives : Result (Unit {0}) E → ℕ × Bor A → Type 0
@@ -72,14 +56,14 @@ module _ {A F E : Type 0} (g : Mut F ((ℕ × Bor A) × Unit {0}) (Result (Unit 
           elim (decided p.whole _ _ run.2) [
             | inl h ↦
                 let full : q.len ≡ length xs = list.1 (n.1.2.1 ∙ h.0) in
-                let none = none_first (length xs) ask (λ i l. none_refused _ (at (Ok tt) i (omega arith) (h.1.1 keeps i))) in
+                let none = none_first (length xs) ask (λ i l. unless_given _ (at (Ok tt) i (omega arith) (h.1.1 keeps i))) in
                 rw (h.1.0, none) refl
             | inr h ↦
                 let i = h.1 in
                 let last : p.len ≡ i + 1 = h.3 in
                 let both = h.4 keeps in
-                let here : ask i ≡ Some (numbering h.0.0) = some_refused _ _ (at (Err h.0.0) i (omega arith) (if_and (p.at i) _ both.0)) in
-                let before : (k : ℕ) → k < i → ask k ≡ None = λ k l. none_refused _ (at (Ok tt) k (omega arith) (if_and (p.at k) _ (both.1 k l))) in
+                let here : ask i ≡ Some (numbering h.0.0) = unless_refused _ _ (at (Err h.0.0) i (omega arith) (if_and (p.at i) _ both.0)) in
+                let before : (k : ℕ) → k < i → ask k ≡ None = λ k l. unless_given _ (at (Ok tt) k (omega arith) (if_and (p.at k) _ (both.1 k l))) in
                 let found = first_found ask (length xs) i (numbering h.0.0) (omega arith) (none_first i ask before) here in
                 refused_by numbering t h.0.0 h.2 ∙ ap (λ o. unless o tt) (sym found)
           ]
