@@ -1,4 +1,5 @@
 pub mod Laid
+pub mod Passings
 pub mod Timed
 pub mod Stepping
 pub mod Judging

@@ -59,19 +59,13 @@ fn check_end(file: &[u8], end: usize) -> Result<(), TableFault>
 fn check_times<T: Time>(file: &[u8], head: &Head) -> Result<(), TimeFault>
     ensures { answer_of (λ u. u) time_refusal result ≡ passing file.now (time_fields T.Time.kind head.now file.now) }
 {
-    for row in 0..head.rows() {
-        check_row::<T>(file, head, row)?;
-    }
-    Ok(())
+    (0..head.rows()).try_for_each(|row| check_row::<T>(file, head, row))
 }
 
 fn check_row<T: Time>(file: &[u8], head: &Head, row: u8) -> Result<(), TimeFault>
     ensures { answer_of (λ u. u) time_refusal result ≡ passing file.now (row_fields T.Time.kind head.now file.now row) }
 {
-    for point in 0..head.points() {
-        check_time::<T>(file, head, row, point)?;
-    }
-    Ok(())
+    (0..head.points()).try_for_each(|point| check_time::<T>(file, head, row, point))
 }
 
 // The time of a point in a row.
@@ -100,10 +94,10 @@ fn fill_times<T: Time>(file: &[u8], size: usize, times: &mut [T])
     ensures front { map T.Time.moment (take size times.new) ≡ times_in T.Time.kind file.now size }
     ensures rest { drop size times.new ≡ drop size times.old }
 {
-    for i in 0..size {
+    for (i, slot) in times[..size].iter_mut().enumerate() {
         let Ok(time) = T::decode(file, time_place::<T>(i)) else {
             unreachable()
         };
-        times[i] = time;
+        *slot = time;
     }
 }

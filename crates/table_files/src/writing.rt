@@ -61,18 +61,8 @@ fn put_times<T: Time>(times: &[T], file: &mut [u8])
     ensures bytes { file.new ≡ paste file.old 7 (flat_map (time_bytes T.Time.kind) (map T.Time.moment times.now)) (width_of T.Time.kind * length times.now) }
     ensures coded { AllByRecursion (OfKind T.Time.kind) (map T.Time.moment times.now) }
 {
-    for i in 0..times.len() {
-        put_time(times[i], time_place::<T>(i), file);
+    for (i, time) in times.iter().enumerate() {
+        let place = time_place::<T>(i);
+        file[place..place + T::width()].copy_from_slice(time.encode().as_slice());
     }
-}
-
-fn put_time<T: Time>(time: T, place: usize, file: &mut [u8])
-    requires { place + width_of T.Time.kind ≤ length file.old }
-    ensures bytes { file.new ≡ paste file.old place (time_bytes T.Time.kind (T.Time.moment time)) (width_of T.Time.kind) }
-    ensures coded { OfKind T.Time.kind (T.Time.moment time) }
-{
-    let coded = time.encode();
-    let bytes = coded.as_slice();
-    let end = place + bytes.len();
-    file[place..end].copy_from_slice(bytes);
 }
