@@ -12,9 +12,8 @@ mod telling;
 
 pub use answers::ReleasedStep;
 pub use faults::{HandedBack, ReleaseFault};
-pub use telling::void;
-
 use sets::Set;
+pub use telling::void;
 
 // Its number, the number of points and letters it was opened for, and sets: the points released, the
 // letters whose token is out, the letters told, and of those the ones told true.
