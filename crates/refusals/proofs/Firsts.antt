@@ -75,19 +75,13 @@ pub true_every : (n : ℕ) (f : ℕ → Bool) → ((i : ℕ) → i < n → f i �
 true_every zero f all = refl
 true_every (suc n) f all = and_from (every n f) (f n) (true_every n f (λ i h. all i (omega arith))) (all n (omega arith))
 
--- Loops. The loop stands at j, and its end k is the bound n of the search.
+-- Where a search stops, and one number more.
 
 module _ {X : Type 0} (f : ℕ → Option X) where
   -- the first answer stays the first
   pub first_found : (n j : ℕ) (a : X) → j < n → first j f ≡ None → f j ≡ Some a → first n f ≡ Some a
   first_found zero j a lt h e = absurd (omega arith)
   first_found (suc n) j a lt h e = ⊎_elim (λ (l : j < n). rw (first_found n j a l h e)) (λ (l : n ≤ j). let P : ℕ → Type 0 = λ k. or_else (first k f) (f k) ≡ Some a in let q : j ≡ n = omega arith in subst P q (rw h e)) (cases_lt j n)
-
-  pub first_answers : (n j : ℕ) (a : X) → j < n → first j f ≡ None → Some a ≡ f j → Some a ≡ first n f
-  first_answers n j a lt h e = sym (first_found n j a lt h (sym e))
-
-  pub first_ends : (n k j : ℕ) → k ≡ n → j ≤ k → k ≤ j → first j f ≡ None → None ≡ first n f
-  first_ends n k j q below above h = let P : ℕ → Type 0 = λ i. None ≡ first i f in let e : j ≡ n = omega arith in subst P e (sym h)
 
 module _ (f : ℕ → Bool) where
   pub every_more : (j : ℕ) → every j f ≡ true → f j ≡ true → every (j + 1) f ≡ true
@@ -99,6 +93,3 @@ module _ (f : ℕ → Bool) where
 
   pub every_stops : (n k j : ℕ) → k ≡ n → j < k → f j ≡ false → false ≡ every n f
   every_stops n k j q lt e = sym (every_fails n j (omega arith) e)
-
-  pub every_ends : (n k j : ℕ) → k ≡ n → j ≤ k → k ≤ j → every j f ≡ true → true ≡ every n f
-  every_ends n k j q below above h = let P : ℕ → Type 0 = λ i. true ≡ every i f in let e : j ≡ n = omega arith in subst P e (sym h)
