@@ -8,10 +8,10 @@ use Rattle.files.specs.Headers.{table_mark}
 use Rattle.times.specs.declared.codings.Kind.{Kind}
 use Rattle.times.specs.declared.codings.Kind.TheVariants.{Whole, Fine}
 use Rattle.times.specs.Coding.{version_of}
+use Rattle.time_fields.proofs.Spelled.{Bytes}
 use Rattle.heads.specs.declared.Head.{Head}
 use Rattle.table_files.specs.Layouts.{header_fields}
 use Rattle.table_files.specs.Writings.{header_bytes}
-use Rattle.table_files.proofs.Spelled.{Bytes}
 
 only : (n x : ℕ) → between n n x ≡ true → x ≡ n
 only n x h = grind (arith, nat_tests)

@@ -1,4 +1,3 @@
-pub mod Laid
 pub mod Passings
 pub mod Timed
 pub mod Stepping

@@ -3,6 +3,8 @@ use Rattle.std.proofs.Common.{◌≡◌, ℕ, ◌*◌, ◌^◌, ◌<◌, ◌≤�
 use Rattle.std.proofs.lemmas.Bool.{ltb-true, lt-ltb, le-ltb}
 use Rattle.refusals.specs.Answers.{Answer, given, refused, unless, refusal_at}
 use Rattle.refusals.specs.declared.Refusal.{Refusal}
+use Rattle.fields.proofs.Chains.{never}
+use Rattle.fields.proofs.Laid.{yes}
 use Rattle.times.specs.declared.codings.Kind.{Kind}
 use Rattle.times.specs.Moments.{Moment}
 use Rattle.plans.specs.Memory.{memory_refusal, TimesKept, MemoryRefused}
@@ -11,8 +13,6 @@ use Rattle.heads.proofs.Tests.{length-tests}
 use Rattle.table_files.specs.Layouts.{table_size, table_length}
 use Rattle.refusals.specs.Rooms.{room_answer}
 use Rattle.table_files.specs.Writings.{bare, write_table, left_by, written, in_memory, no_room, WriteSays}
-use Rattle.table_files.proofs.Laid.{yes}
-use Rattle.table_files.proofs.Timed.{never}
 
 unless_given : (o : Option Refusal) → yes ≡ unless o tt → o ≡ None
 unless_given None e = refl

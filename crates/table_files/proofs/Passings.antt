@@ -12,7 +12,7 @@ use Rattle.refusals.specs.Searches.{or_else, first}
 use Rattle.refusals.proofs.Chained.{each_passes}
 use Rattle.fields.specs.Fields.{Field}
 use Rattle.fields.proofs.Chains.{onward, halted}
-use Rattle.table_files.specs.Layouts.{laid, passing}
+use Rattle.fields.specs.Laid.{laid, passing}
 
 abbrev refusal_in : Answer (Unit {0}) → Option Refusal
 refusal_in (given u) = None

@@ -1,5 +1,5 @@
 -- A file is read with times exactly when it is their file.
-use Rattle.std.proofs.Common.{◌≡◌, ℕ, ◌+◌, ◌*◌, ◌^◌, ◌<◌, ◌≤◌, List, [], ◌∷◌, ◌++◌, length, get_or, take, drop, sym, refl, ap, ◌∙◌, subst, mul_comm, arith}
+use Rattle.std.proofs.Common.{◌≡◌, ℕ, ◌+◌, ◌*◌, ◌^◌, ◌<◌, ◌≤◌, List, [], ◌∷◌, ◌++◌, length, get_or, take, drop, sym, ap, ◌∙◌, subst, mul_comm, arith}
 use Rattle.std.specs.List.{flat_map, AllByRecursion}
 use Rattle.std.proofs.lemmas.Nat.{mul-add-lt}
 use Rattle.std.proofs.ByRecursion.{All-from_get_or}
@@ -7,28 +7,28 @@ use Rattle.std.proofs.lemmas.List.{same_lists, take_all, take_at, length-drop}
 use Rattle.std.proofs.lemmas.Bool.{le-leb}
 use Rattle.refusals.specs.Answers.{Answer, given, unless}
 use Rattle.fields.specs.Fields.{Kept, AllKept}
+use Rattle.fields.specs.Readings.{end_field}
+use Rattle.fields.proofs.Laid.{yes, length-laid, get_or-laid, kept_left, kept_both, kept_at, kept_each}
 use Rattle.times.specs.declared.codings.Kind.{Kind}
 use Rattle.times.specs.Coding.{width_of, time_at, time_bytes}
 use Rattle.times.specs.Moments.{Moment}
+use Rattle.time_fields.specs.Kinds.{OfKind}
+use Rattle.time_fields.proofs.Spelled.{Bytes, of_kind_at}
 use Rattle.plans.specs.Memory.{allowed, memory_refusal, TimesKept}
 use Rattle.plans.specs.Plans.{origin}
 use Rattle.heads.specs.declared.Head.{Head}
 use Rattle.plans.proofs.Memories.{none_from_times}
 use Rattle.heads.proofs.Tests.{length-tests}
-use Rattle.table_files.specs.Layouts.{table_size, time_place, table_length, header_fields, table_time, row_fields, time_fields, end_field, body_fields}
+use Rattle.table_files.specs.Layouts.{table_size, time_place, table_length, header_fields, table_time, row_fields, time_fields, body_fields}
 use Rattle.table_files.specs.Readings.{times_in, counted, read_table, IsRead}
-use Rattle.table_files.specs.Writings.{bare, OfKind, header_bytes, table_bytes}
+use Rattle.table_files.specs.Writings.{bare, header_bytes, table_bytes}
 use Rattle.table_files.specs.Trips.{IsTable, IsFileOf, Rewritten, ReadExactly, WritesBack, Checked, Ready}
-use Rattle.table_files.proofs.Laid.{yes, length-laid, get_or-laid, kept_left, kept_both, kept_at, kept_each}
 use Rattle.table_files.proofs.Timed.{place_in}
-use Rattle.table_files.proofs.Judging.{size_small, read_says, read_is, exact_length, refuses_exactly}
+use Rattle.table_files.proofs.Judging.{given_same, size_small, read_says, read_is, exact_length, refuses_exactly}
 use Rattle.table_files.proofs.Putting.{length-table}
 use Rattle.table_files.proofs.Outcomes.{full_size, goes}
-use Rattle.table_files.proofs.Spelled.{Bytes, of_kind_at, times_there, coded_again}
+use Rattle.table_files.proofs.Spelled.{times_there, coded_again}
 use Rattle.table_files.proofs.Headed.{header_spelled, header_kept}
-
-given_same : {X : Type 0} (x y : X) → given x ≡ given y → x ≡ y
-given_same x y e = cc
 
 -- the number of a point in a row
 number_in : (head : Head) (row x : ℕ) → row < 2 ^ head.letters → x < head.points → row * head.points + x < table_size head
@@ -65,20 +65,20 @@ module _ (kind : Kind) (head : Head) (file : List ℕ) where
     read_parts : read_table kind head file room ≡ given ts → IsRead kind head file room (length ts) × (ts ≡ read_times)
     read_parts e =
         let is = read_says kind head file room (given (length ts)) (sym (ap counted e)) in
-        (is, given_same ts read_times (sym e ∙ read_is kind head file room (length ts) is))
+        (is, given_same ts read_times (sym e ∙ read_is kind head file room is.kept))
 
     pub is_file_of : Bytes file → read_table kind head file room ≡ given ts → IsFileOf kind head room ts file
     is_file_of small e =
         let p = read_parts e in
         let is = p.0 in
-        let ends = exact_length kind head file room (length ts) is in
-        let header = header_spelled kind head file small is.header in
+        let ends = exact_length kind head file room is.kept in
+        let header = header_spelled kind head file small is.kept.header_kept in
         let again = coded_again kind file small (table_size head) (omega arith) in
         let short = length-drop 7 file in
         let rest : take (width_of kind * table_size head) (drop 7 file) ≡ drop 7 file = take_all _ _ (omega arith) in
         let bytes : file ≡ table_bytes kind head read_times = header ∙ ap (λ l. header_bytes kind head ++ l) (sym (again ∙ rest)) in
-        let table : IsTable kind head read_times = record { kept = times_kept (kept_left file (time_fields kind head file) (end_field kind head file ∷ []) is.body); of_kind = all_of_kind small (omega arith) } in
-        subst (λ ts. IsFileOf kind head room ts file) (sym p.1) (record { bytes = bytes; table = table; room_for = is.room_for })
+        let table : IsTable kind head read_times = record { kept = times_kept (kept_left file (time_fields kind head file) (end_field file (table_length kind head) ∷ []) is.kept.body_kept); of_kind = all_of_kind small (omega arith) } in
+        subst (λ ts. IsFileOf kind head room ts file) (sym p.1) (record { bytes = bytes; table = table; room_for = is.kept.room_for })
 
     module _ (is : IsFileOf kind head room ts file) where
       size : length ts ≡ table_size head
@@ -109,11 +109,11 @@ module _ (kind : Kind) (head : Head) (file : List ℕ) where
       body_there : AllKept file (body_fields kind head file)
       body_there =
           let times = kept_each file (row_fields kind head file) (2 ^ head.letters) (λ row r. kept_each file (λ x. table_time kind head file row x ∷ []) head.points (λ x l. (time_there row x r l, tt))) in
-          kept_both file (time_fields kind head file) (end_field kind head file ∷ []) times (record { there = omega (arith, long); kept = le-leb (length file) (table_length kind head) (omega (arith, long)) }, tt)
+          kept_both file (time_fields kind head file) (end_field file (table_length kind head) ∷ []) times (record { there = omega (arith, long); kept = le-leb (length file) (table_length kind head) (omega (arith, long)) }, tt)
 
       pub file_is_read : read_table kind head file room ≡ given ts
       file_is_read =
-          read_is kind head file room (table_size head) (record { header = header_there; room_for = is.room_for; body = body_there; size = refl }) ∙ ap given same_times
+          read_is kind head file room (record { header_kept = header_there; room_for = is.room_for; body_kept = body_there }) ∙ ap given same_times
 
       pub rewritten : Rewritten kind head file room ts
       rewritten =
@@ -145,9 +145,9 @@ module _ (kind : Kind) (head : Head) (file : List ℕ) (room : ℕ) where
   ready n e =
       let is = read_says kind head file room (given n) e in
       let size = is.size in
-      let ends = exact_length kind head file room n is in
-      let read = read_is kind head file room n is in
-      (rw size (size_small head), rw size is.room_for, rw (size, ends) (omega arith), rw size read)
+      let ends = exact_length kind head file room is.kept in
+      let read = read_is kind head file room is.kept in
+      (rw size (size_small head), rw size is.kept.room_for, rw (size, ends) (omega arith), rw size read)
 
 -- the front of an array that a file was written to
 pub reads_back : (kind : Kind) (head : Head) (ts : List Moment) (after rest : List ℕ) (n : ℕ) → IsTable kind head ts → after ≡ table_bytes kind head ts ++ rest → n ≡ table_length kind head → (room : ℕ) → table_size head ≤ room → read_table kind head (take n after) room ≡ given ts

@@ -1,21 +1,13 @@
 -- The layout of a table file: mark, version, numbers of points and tests, the times by row and point, and the end.
-use Rattle.std.specs.Prelude.{ℕ, zero, suc, ◌+◌, ◌*◌, ◌^◌, List, [], ◌∷◌, ◌++◌, length, nat_le}
-use Rattle.refusals.specs.Answers.{Answer}
-use Rattle.fields.specs.Fields.{Field, checked, mark_field, version_field, count_field}
+use Rattle.std.specs.Prelude.{ℕ, ◌+◌, ◌*◌, ◌^◌, List, [], ◌∷◌, ◌++◌}
+use Rattle.fields.specs.Fields.{Field, mark_field, version_field, count_field}
+use Rattle.fields.specs.Laid.{laid}
+use Rattle.fields.specs.Readings.{end_field}
 use Rattle.files.specs.Headers.{table_mark}
 use Rattle.times.specs.declared.codings.Kind.{Kind}
 use Rattle.times.specs.Coding.{version_of, width_of, time_at}
 use Rattle.plans.specs.Memory.{allowed}
 use Rattle.heads.specs.declared.Head.{Head}
-
--- what f gives for 0, 1, .., n - 1, end to end
-abbrev pub laid : {X : Type 0} → ℕ → (ℕ → List X) → List X
-laid zero f = []
-laid (suc n) f = laid n f ++ f n
-
--- whether every field passes, or the first refusal
-abbrev pub passing : List ℕ → List Field → Answer (Unit {0})
-passing file fields = checked file fields tt
 
 -- a table of so many points and tests has a time for each point in each row
 abbrev pub size_for : ℕ → ℕ → ℕ
@@ -48,15 +40,9 @@ module _ (kind : Kind) (n k : ℕ) where
     abbrev pub times_for : List Field
     times_for = laid (2 ^ k) row_for
 
-    -- 10: a field of no bytes after which no byte follows
-    abbrev pub end_for : Field
-    end_for =
-        let end = time_place kind (size_for n k) in
-        record { from = end; width = 0; number = 10; keeps = λ _. nat_le (length file) end }
-
     -- what follows the header: the times, and the end
     abbrev pub body_for : List Field
-    body_for = times_for ++ (end_for ∷ [])
+    body_for = times_for ++ (end_field file (time_place kind (size_for n k)) ∷ [])
 
 -- the same for the head of a plan
 module _ (kind : Kind) (head : Head) where
@@ -76,9 +62,6 @@ module _ (kind : Kind) (head : Head) where
 
     abbrev pub time_fields : List Field
     time_fields = times_for kind head.points head.letters file
-
-    abbrev pub end_field : Field
-    end_field = end_for kind head.points head.letters file
 
     abbrev pub body_fields : List Field
     body_fields = body_for kind head.points head.letters file

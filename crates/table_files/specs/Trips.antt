@@ -4,11 +4,12 @@ use Rattle.std.specs.List.{AllByRecursion}
 use Rattle.refusals.specs.Answers.{Answer, given, refused}
 use Rattle.times.specs.declared.codings.Kind.{Kind}
 use Rattle.times.specs.Moments.{Moment}
+use Rattle.time_fields.specs.Kinds.{OfKind}
 use Rattle.plans.specs.Memory.{TimesKept}
 use Rattle.heads.specs.declared.Head.{Head}
 use Rattle.table_files.specs.Layouts.{table_size, time_place}
 use Rattle.table_files.specs.Readings.{times_in, read_table, ReadSays, RefusesExactly}
-use Rattle.table_files.specs.Writings.{bare, OfKind, table_bytes, write_table, written}
+use Rattle.table_files.specs.Writings.{bare, table_bytes, write_table, written}
 
 -- times that keep the rules of a table, and that the kind can hold
 pub record IsTable (kind : Kind) (head : Head) (ts : List Moment) : Type 0 where

@@ -4,7 +4,7 @@ use Rattle.std.specs.List.{flat_map}
 use Rattle.refusals.specs.Answers.{Answer, given, refused, unless, refusal_at}
 use Rattle.refusals.specs.declared.Refusal.{Refusal}
 use Rattle.times.specs.declared.codings.Kind.{Kind}
-use Rattle.times.specs.Coding.{version_of, time_at, time_bytes}
+use Rattle.times.specs.Coding.{version_of, time_bytes}
 use Rattle.times.specs.Moments.{Moment}
 use Rattle.refusals.specs.Searches.{or_else, when}
 use Rattle.plans.specs.Plans.{Plan}
@@ -57,7 +57,3 @@ module _ (kind : Kind) (head : Head) where
     abbrev pub WriteSays : ℕ → Answer ℕ → Type 0
     WriteSays room (given n) = IsWritten room n
     WriteSays room (refused r) = WriteRefused room r
-
--- a moment that the kind can hold: its bytes say it again
-abbrev pub OfKind : Kind → Moment → Type 0
-OfKind kind m = time_at kind (time_bytes kind m) 0 ≡ m

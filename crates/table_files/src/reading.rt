@@ -5,7 +5,8 @@ ghost use Rattle.plans.specs.Memory.{allowed};
 ghost use Rattle.refusals.specs.Searches.{when};
 ghost use Rattle.times.specs.Coding.{time_refusal};
 ghost use Rattle.table_files.specs.Faults.{table_refusal};
-ghost use Rattle.table_files.specs.Layouts.{passing, time_place, table_time, row_fields, time_fields};
+ghost use Rattle.fields.specs.Laid.{passing};
+ghost use Rattle.table_files.specs.Layouts.{time_place, table_time, row_fields, time_fields};
 ghost use Rattle.table_files.specs.Readings.{Filled, ReadSays, RefusesExactly, counted, end_answer, read_table, times_in};
 ghost use Rattle.table_files.specs.Trips.{Checked, ReadExactly, Ready, WritesBack};
 

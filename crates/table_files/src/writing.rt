@@ -6,10 +6,11 @@ ghost use Rattle.refusals.specs.Answers.{answer_of, unless};
 ghost use Rattle.times.specs.Coding.{time_bytes, width_of};
 ghost use Rattle.plans.specs.Faults.{memory_fault};
 ghost use Rattle.plans.specs.Memory.{MemorySays, memory_refusal};
+ghost use Rattle.time_fields.specs.Kinds.{OfKind};
 ghost use Rattle.table_files.specs.Faults.{write_fault};
 ghost use Rattle.table_files.specs.Layouts.{time_place};
 ghost use Rattle.table_files.specs.Trips.{ReadsBack};
-ghost use Rattle.table_files.specs.Writings.{OfKind, WriteSays, bare, header_bytes, write_table, written};
+ghost use Rattle.table_files.specs.Writings.{WriteSays, bare, header_bytes, write_table, written};
 
 use crate::faults::WriteFault;
 use crate::layout::time_place;

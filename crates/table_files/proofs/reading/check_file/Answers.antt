@@ -1,5 +1,5 @@
 use Rattle.std.proofs.lemmas.Result.{err_from_is_err_and}
-use Rattle.table_files.proofs.Spelled.{Bytes}
+use Rattle.time_fields.proofs.Spelled.{Bytes}
 use Rattle.table_files.proofs.Stepping.{header_stops, room_stops, times_stop, end_stops, all_passed}
 use Rattle.table_files.proofs.Rounds.{known, ready}
 use Rattle.table_files.proofs.reading.check_file.Goals as goal

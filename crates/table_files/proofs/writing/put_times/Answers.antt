@@ -2,7 +2,8 @@ use Rattle.std.proofs.Common.{◌≡◌, ◌+◌, ◌-◌, ◌≤◌, length, sy
 use lib.Seq.{paste}
 use Rattle.std.proofs.lemmas.Slice.{put_mid-paste}
 use Rattle.times.specs.Coding.{time_at, time_bytes, width_of}
-use Rattle.table_files.proofs.Putting.{length-time_bytes, put_more, coded_more}
+use Rattle.time_fields.proofs.Widths.{length-time_bytes}
+use Rattle.table_files.proofs.Putting.{put_more, coded_more}
 use Rattle.table_files.proofs.writing.put_times.Goals as goal
 
 pub loop-i-preserved : goal.loop-i-preserved

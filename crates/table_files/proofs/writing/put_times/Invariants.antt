@@ -2,7 +2,7 @@ use Rattle.std.proofs.Common.{◌≡◌, ◌*◌, map, take}
 use lib.Seq.{paste}
 use Rattle.std.specs.List.{flat_map, AllByRecursion}
 use Rattle.times.specs.Coding.{time_bytes, width_of}
-use Rattle.table_files.specs.Writings.{OfKind}
+use Rattle.time_fields.specs.Kinds.{OfKind}
 use Rattle.table_files.proofs.writing.put_times.Given as goal
 
 abbrev pub invariant-loop-i : goal.invariant-loop-i
