@@ -2,7 +2,7 @@
 use Rattle.std.proofs.Common.{◌≡◌, ℕ, suc, ◌+◌, ◌*◌, ◌<◌, ◌≤◌, List, [], ◌∷◌, ◌++◌, map, length, get_or, take, drop, sym, refl, ap, ◌∙◌, subst, arith}
 use lib.Seq.{paste}
 use Rattle.std.specs.List.{flat_map, AllByRecursion}
-use Rattle.std.proofs.lemmas.List.Edits.{paste_none, paste-paste, paste_all}
+use Rattle.std.proofs.lemmas.List.Edits.{paste-paste, paste_all}
 use Rattle.std.proofs.ByRecursion.{All-push}
 use Rattle.std.proofs.lemmas.List.{map_more, flat_map_more, length-append, length-map, length-take-le}
 use Rattle.times.specs.declared.codings.Kind.{Kind}
@@ -24,10 +24,6 @@ length-times kind (m ∷ ms) =
 
 pub length-table : (kind : Kind) (head : Head) (ms : List Moment) → length (table_bytes kind head ms) ≡ time_place kind (length ms)
 length-table kind head ms = length-append (header_bytes kind head) _ ∙ ap (λ n. 7 + n) (length-times kind ms)
-
-pub put_none : (kind : Kind) (d : List ℕ) → d ≡ paste d 7 [] (width_of kind * 0)
-put_none Whole d = paste_none d 7 []
-put_none Fine d = paste_none d 7 []
 
 module _ {X : Type 0} (of : X → Moment) (kind : Kind) where
   abbrev so_far : List X → ℕ → List ℕ

@@ -41,12 +41,13 @@ fn check_file<T: Time>(file: &[u8], head: &Head, room: usize) -> Result<usize, T
     check_table_header(file, &plan_header::<T>(head))?;
     let size = table_size(head);
     check_room(room, size)?;
-    check_times::<T>(file, head)?;
+    Source { file, head }.check_times::<T>()?;
     check_end(file, time_place::<T>(size))?;
     Ok(size)
 }
 
 // Whether a file goes no further than its last time.
+// Not that of plan_records: it has another fault, and asks for a file that is too short as well.
 fn check_end(file: &[u8], end: usize) -> Result<(), TableFault>
     ensures { answer_of (λ u. u) table_refusal result ≡ end_answer file.now end }
 {
@@ -56,27 +57,36 @@ fn check_end(file: &[u8], end: usize) -> Result<(), TableFault>
     Ok(())
 }
 
-// The times, row by row.
-fn check_times<T: Time>(file: &[u8], head: &Head) -> Result<(), TimeFault>
-    ensures { answer_of (λ u. u) time_refusal result ≡ passing file.now (time_fields T.Time.kind head.now file.now) }
-{
-    (0..head.rows()).try_for_each(|row| check_row::<T>(file, head, row))
+// The bytes of a table file, and the head of the plan that it is for.
+#[derive(Drop)]
+struct Source<'a> {
+    file: &'a [u8],
+    head: &'a Head,
 }
 
-fn check_row<T: Time>(file: &[u8], head: &Head, row: u8) -> Result<(), TimeFault>
-    ensures { answer_of (λ u. u) time_refusal result ≡ passing file.now (row_fields T.Time.kind head.now file.now row) }
-{
-    (0..head.points()).try_for_each(|point| check_time::<T>(file, head, row, point))
-}
+impl Source<'_> {
+    // The times, row by row.
+    fn check_times<T: Time>(&self) -> Result<(), TimeFault>
+        ensures { answer_of (λ u. u) time_refusal result ≡ passing self.now.file.now (time_fields T.Time.kind self.now.head.now self.now.file.now) }
+    {
+        (0..self.head.rows()).try_for_each(|row| self.check_row::<T>(row))
+    }
 
-// The time of a point in a row.
-fn check_time<T: Time>(file: &[u8], head: &Head, row: u8, point: u8) -> Result<(), TimeFault>
-    ensures { answer_of (λ u. u) time_refusal result ≡ passing file.now (table_time T.Time.kind head.now file.now row point ∷ []) }
-{
-    let number = usize::from(row) * usize::from(head.points()) + usize::from(point);
-    let place = time_place::<T>(number);
-    let time: T = T::decode(file, place)?;
-    check_rule(point, place, time)
+    fn check_row<T: Time>(&self, row: u8) -> Result<(), TimeFault>
+        ensures { answer_of (λ u. u) time_refusal result ≡ passing self.now.file.now (row_fields T.Time.kind self.now.head.now self.now.file.now row) }
+    {
+        (0..self.head.points()).try_for_each(|point| self.check_time::<T>(row, point))
+    }
+
+    // The time of a point in a row.
+    fn check_time<T: Time>(&self, row: u8, point: u8) -> Result<(), TimeFault>
+        ensures { answer_of (λ u. u) time_refusal result ≡ passing self.now.file.now (table_time T.Time.kind self.now.head.now self.now.file.now row point ∷ []) }
+    {
+        let number = usize::from(row) * usize::from(self.head.points()) + usize::from(point);
+        let place = time_place::<T>(number);
+        let time: T = T::decode(self.file, place)?;
+        check_rule(point, place, time)
+    }
 }
 
 // Whether the time of a point, which was read at a place, keeps its rule.
