@@ -3,7 +3,7 @@ use Rattle.std.proofs.Common.{◌≡◌, ℕ, ◌<◌, ◌≤◌, Bool, true, fa
 use Rattle.std.proofs.lemmas.List.{get_or_default, get_or_past, get_or-take, same_lists}
 use Rattle.std.proofs.lemmas.Bool.{and_parts, and_from, not-true, both_ways}
 use Rattle.std.proofs.lemmas.Bool.Decides.{nat_tests}
-use Rattle.refusals.specs.Answers.{Answer, given, unless}
+use Rattle.refusals.specs.Answers.{Answer, unless}
 use Rattle.refusals.specs.declared.Refusal.{Refusal}
 use Rattle.heads.specs.Heads.{Outline, counted, figured, is_new, is_test, test_refusal, head_refusal, new_head, Counted, Figured, IsTest, IsHead, HeadRefused, counts, figures, test, HeadSays}
 use Rattle.refusals.proofs.Firsts.{or_none, or_some, when_none, when_some, first_none, first_some, every_true, true_every}
@@ -19,10 +19,6 @@ not_not b h = grind (arith, nat_tests)
 
 but : {P : Type 0} (b : Bool) → (P → b ≡ true) → not b ≡ true → P → ⊥
 but b h e p = both_ways _ (not-true _ e) (h p)
-
-pub none_refused : (a : Option Refusal) → given tt ≡ unless {X = Unit {0}} a tt → a ≡ None
-none_refused None e = refl
-none_refused (Some r) e = cc
 
 module _ (o : Outline) where
   counted_from : counted o ≡ true → Counted o

@@ -17,36 +17,11 @@ use Rattle.plan_contents.specs.Contents.{Contents, count_bytes, header_bytes, li
 use Rattle.plan_contents.proofs.Places.{limit_size, limit_size_more}
 use Rattle.plan_contents.proofs.Lengths.{length-limit_bytes, length-limits, length-plan}
 
-version_small : (kind : Kind) → version_of kind < 256
-version_small Whole = omega arith
-version_small Fine = omega arith
-
--- counts as their bytes
-module _ (kind : Kind) (c : Contents) (v n points letters : ℕ) (version limits : List ℕ) where
-  pub counts_spelled : v ≡ version_of kind → n ≡ length c.limits → n ≤ 256 → points ≡ c.head.points → letters ≡ length c.head.tests → version ≡ (v / 256 % 256) ∷ (v % 256) ∷ [] → limits ≡ (n / 256 % 256) ∷ (n % 256) ∷ [] → 0x44 ∷ 0x50 ∷ 0x4E ∷ get_or version 0 0 ∷ get_or version 1 0 ∷ points ∷ letters ∷ get_or limits 0 0 ∷ get_or limits 1 0 ∷ [] ≡ count_bytes kind c
-  counts_spelled ev en few ep el v_is n_is =
-      let small = version_small kind in
-      let high : get_or version 0 0 ≡ 0 = ap (λ l. get_or l 0 0) v_is ∙ omega arith in
-      let low : get_or version 1 0 ≡ version_of kind = ap (λ l. get_or l 1 0) v_is ∙ omega arith in
-      let many : get_or limits 0 0 ≡ length c.limits / 256 = ap (λ l. get_or l 0 0) n_is ∙ omega arith in
-      let rest : get_or limits 1 0 ≡ length c.limits % 256 = ap (λ l. get_or l 1 0) n_is ∙ omega arith in
-      cc
-
 -- one part after another, from the front
 paste_on : (d s t : List ℕ) (n m : ℕ) → n ≡ length s → m ≡ length t → paste (paste d 0 s n) n t m ≡ paste d 0 (s ++ t) (n + m)
 paste_on d s t n m p q =
     let at : n ≡ 0 + n = omega arith in
     ap (λ k. paste (paste d 0 s n) k t m) at ∙ paste-paste d 0 s t n m p q (omega arith)
-
--- the counts, r and d
-pub put_header : (kind : Kind) (c : Contents) (d counted rounded after : List ℕ) (r delay : ℕ) → r ≡ c.head.round → delay ≡ c.head.delay → counted ≡ paste d 0 (count_bytes kind c) 9 → rounded ≡ paste counted 9 (word_bytes r) 4 → after ≡ paste rounded 13 (word_bytes delay) 4 → after ≡ paste d 0 (header_bytes kind c) 17
-put_header kind c d counted rounded after r delay er ed e f g =
-    let round_bytes = word_bytes c.head.round in
-    let delay_bytes = word_bytes c.head.delay in
-    let one = paste_on d (count_bytes kind c) round_bytes 9 4 refl refl in
-    let two = paste_on d (count_bytes kind c ++ round_bytes) delay_bytes 13 4 refl refl in
-    let before = f ∙ ap (λ n. paste counted 9 (word_bytes n) 4) er ∙ ap (λ l. paste l 9 round_bytes 4) e ∙ one in
-    g ∙ ap (λ n. paste rounded 13 (word_bytes n) 4) ed ∙ ap (λ l. paste l 13 delay_bytes 4) before ∙ two
 
 -- a limit: its points and letters, and then its bound
 pub put_limit : (kind : Kind) (l : Limit Moment) (at : ℕ) (d file after : List ℕ) → at ≤ length d → file ≡ paste d at (l.from ∷ l.to ∷ l.wanted ∷ l.unwanted ∷ []) 4 → after ≡ paste file (at + 4) (time_bytes kind l.bound) (width_of kind) → after ≡ paste d at (limit_bytes kind l) (limit_size kind)
@@ -59,10 +34,6 @@ put_limit kind l at d file after room e h =
 
 pub limits_more : (kind : Kind) (i : ℕ) → limit_size kind * (i + 1) ≡ limit_size kind * i + limit_size kind
 limits_more kind i = rw add-one (limit_size_more kind i)
-
-pub no_limits : (kind : Kind) (at : ℕ) (d : List ℕ) → d ≡ paste d at [] (limit_size kind * 0)
-no_limits Whole at d = paste_none d at []
-no_limits Fine at d = paste_none d at []
 
 module _ {X : Type 0} (of : X → Moment) (kind : Kind) where
   abbrev so_far : List (Limit X) → ℕ → List (Limit Moment)

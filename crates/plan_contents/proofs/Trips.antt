@@ -51,10 +51,6 @@ module _ (kind : Kind) (file : List ℕ) (room : ℕ) where
   pub contents_kept : Bytes file → Whole → IsPlan kind (contents_in file kind)
   contents_kept small h = is_plan kind file h.header_kept h.body_kept small
 
-  -- no byte follows the last record
-  pub exact_length : Whole → length file ≡ place file (record_count (header file))
-  exact_length h = (body_parts (header file) file h.body_kept).ends ∙ sym (end_at (header file) file)
-
   module _ (c : Contents) where
     given_same : (d : Contents) → given c ≡ given d → c ≡ d
     given_same d e = cc

@@ -52,9 +52,6 @@ module _ (names : List ℕ) (n : ℕ) (kept : AllKept names (run_fields names n)
   short zero l = omega arith
   short (suc i) l = omega (arith, short i (omega arith), short_name i (omega arith))
 
-  pub names_short : length names ≤ 17 * n
-  names_short = omega (arith, full, short n (omega arith))
-
 -- what is refused of limits, from what is said of them
 
 module _ (p : Plan) where
@@ -79,12 +76,6 @@ module _ (kind : Kind) (c : Contents) where
 
   abbrev names_answer : Answer (Unit {0})
   names_answer = passing c.names (run_fields c.names c.head.points)
-
-  abbrev after_names : ℕ → Answer ℕ
-  after_names room = and_then (room_answer room (plan_length kind c)) (λ _. given (plan_length kind c))
-
-  abbrev after_memory : ℕ → Answer ℕ
-  after_memory room = and_then names_answer (λ _. after_names room)
 
   module _ (room : ℕ) where
     in_words : (memory names : Answer (Unit {0})) (short : Bool) → LimitsSay (plan_in c) memory → JudgedFields c.names (run_fields c.names c.head.points) names → ltb room (plan_length kind c) ≡ short → WriteSays kind c room (and_then memory (λ _. and_then names (λ _. and_then (cond short (refused (refusal_at 11 (plan_length kind c))) yes) (λ _. given (plan_length kind c)))))
@@ -117,39 +108,3 @@ module _ (kind : Kind) (c : Contents) where
 
     pub refuses_exactly : (r : Refusal) → RefusedExactly kind c room r
     refuses_exactly r = record { only = λ e. answer_says (refused r) (sym e); always = refused_is r }
-
-    -- the answer from those of the checks, in their order
-
-    pub memory_stops : (r : Refusal) → refused r ≡ memory_answer → refused r ≡ write_plan kind c room
-    memory_stops r e = ap (λ a. and_then a (λ _. after_memory room)) e
-
-    module _ (memory : yes ≡ memory_answer) (n : ℕ) (same : n ≡ c.head.points) where
-      past_memory : after_memory room ≡ write_plan kind c room
-      past_memory = ap (λ a. and_then a (λ _. after_memory room)) memory
-
-      names_here : passing c.names (run_fields c.names n) ≡ names_answer
-      names_here = ap (λ n. passing c.names (run_fields c.names n)) same
-
-      pub names_stop : (r : Refusal) → refused r ≡ passing c.names (run_fields c.names n) → refused r ≡ write_plan kind c room
-      names_stop r e = ap (λ a. and_then a (λ _. after_names room)) (e ∙ names_here) ∙ past_memory
-
-      module _ (names : yes ≡ passing c.names (run_fields c.names n)) (size : ℕ) (long : size ≡ plan_length kind c) where
-        past_names : after_names room ≡ write_plan kind c room
-        past_names = ap (λ a. and_then a (λ _. after_names room)) (names ∙ names_here) ∙ past_memory
-
-        pub room_stops : (r : Refusal) → refused r ≡ room_answer room size → refused r ≡ write_plan kind c room
-        room_stops r e = ap (λ a. and_then a (λ _. given (plan_length kind c))) (e ∙ ap (room_answer room) long) ∙ past_names
-
-        pub goes : yes ≡ room_answer room size → given size ≡ write_plan kind c room
-        goes e = ap given long ∙ ap (λ a. and_then a (λ _. given (plan_length kind c))) (e ∙ ap (room_answer room) long) ∙ past_names
-
-  -- what an array holds after the answer
-
-  module _ (out : List ℕ) where
-    pub left : (a : Answer ℕ) → a ≡ write_plan kind c (length out) → left_by kind c a out ≡ written kind c out
-    left a e = ap (λ a. left_by kind c a out) e
-
-    pub put : (n : ℕ) (after : List ℕ) → given n ≡ write_plan kind c (length out) → after ≡ plan_bytes kind c ++ drop (plan_length kind c) out → after ≡ written kind c out
-    put n after e h =
-        let size = (answer_says (length out) (given n) e).size in
-        h ∙ ap (λ n. plan_bytes kind c ++ drop n out) (sym size) ∙ left (given n) e

@@ -1,5 +1,5 @@
 -- What is read of lent slices.
-use Rattle.std.proofs.Common.{◌≡◌, ℕ, ◌^◌, ◌<◌, ◌≤◌, Bool, true, false, not, List, length, get_or, Some, None, Option, sym, ap, ◌∙◌, arith}
+use Rattle.std.proofs.Common.{◌≡◌, ℕ, ◌^◌, ◌<◌, Bool, true, false, not, List, length, get_or, Some, None, Option, sym, ap, ◌∙◌, arith}
 use lib.ListN.{length-map}
 use Rattle.std.proofs.lemmas.List.{get_or-map}
 use Rattle.refusals.specs.Answers.{refusal_at}
@@ -9,10 +9,9 @@ use Rattle.heads.specs.declared.Head.{Head}
 use Rattle.heads.proofs.Tests.{length-tests, read_test}
 use Rattle.plans.specs.Plans.{Plan, letters, rows, test, limit_at}
 use Rattle.plans.specs.Memory.{fitting, fits, limit_refusal}
-use Rattle.refusals.specs.Searches.{or_else, first, when, every}
+use Rattle.refusals.specs.Searches.{or_else, when}
 use Rattle.plans.specs.Views.{limit_of, plan_of}
 use Rattle.plans.specs.declared.limits.Limit.{Limit}
-use Rattle.refusals.proofs.Firsts.{first_answers, first_ends, every_stops, every_ends}
 
 module _ {X : Type 0} (f : X → Moment) (h : Head) (ls : List (Limit X)) where
   pub letters_of : h.letters ≡ letters (plan_of f h ls)
@@ -58,19 +57,3 @@ module _ {X : Type 0} (x y : X) where
 
   pub both_rules : (a b : Bool) → true ≡ a → true ≡ b → None ≡ or_else (when (not a) x) (when (not b) y)
   both_rules a b e h = rw (← e, ← h)
-
--- a loop over the rows of a head's tables
-module _ {X Y : Type 0} (f : X → Moment) (h : Head) (ls : List (Limit X)) (g : ℕ → Option Y) where
-  pub row_answers : (k row : ℕ) (y : Y) → k ≡ 2 ^ h.letters → row < k → first row g ≡ None → Some y ≡ g row → Some y ≡ first (rows (plan_of f h ls)) g
-  row_answers k row y e lt none here = first_answers g (rows (plan_of f h ls)) row y (let r = rows_of f h ls in omega arith) none here
-
-  pub rows_pass : (k row : ℕ) → k ≡ 2 ^ h.letters → row ≤ k → k ≤ row → first row g ≡ None → None ≡ first (rows (plan_of f h ls)) g
-  rows_pass k row e below above none = first_ends g (rows (plan_of f h ls)) k row (e ∙ rows_of f h ls) below above none
-
--- a loop over the letters of a head
-module _ {X : Type 0} (f : X → Moment) (h : Head) (ls : List (Limit X)) (g : ℕ → Bool) where
-  pub letter_fails : (k i : ℕ) (b : Bool) → k ≡ h.letters → i < k → b ≡ g i → b ≡ false → false ≡ every (letters (plan_of f h ls)) g
-  letter_fails k i b e lt here t = every_stops g (letters (plan_of f h ls)) k i (e ∙ letters_of f h ls) lt (sym here ∙ t)
-
-  pub letters_pass : (k i : ℕ) → k ≡ h.letters → i ≤ k → k ≤ i → every i g ≡ true → true ≡ every (letters (plan_of f h ls)) g
-  letters_pass k i e below above all = every_ends g (letters (plan_of f h ls)) k i (e ∙ letters_of f h ls) below above all

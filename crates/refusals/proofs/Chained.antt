@@ -14,11 +14,11 @@ use Rattle.refusals.specs.declared.Refusal.{Refusal}
 use Rattle.refusals.specs.Searches.{first, when, every}
 use Rattle.refusals.proofs.Firsts.{none_first, first_found, true_every, every_fails, some_none, none_when}
 
-unless_given : (o : Option Refusal) → given tt ≡ unless {X = Unit {0}} o tt → o ≡ None
+pub unless_given : (o : Option Refusal) → given tt ≡ unless {X = Unit {0}} o tt → o ≡ None
 unless_given None h = refl
 unless_given (Some q) h = let z : ◌≡◌ {A = ℕ} 0 1 = cc in absurd (omega arith)
 
-unless_refused : (o : Option Refusal) (q : Refusal) → refused q ≡ unless {X = Unit {0}} o tt → o ≡ Some q
+pub unless_refused : (o : Option Refusal) (q : Refusal) → refused q ≡ unless {X = Unit {0}} o tt → o ≡ Some q
 unless_refused None q h = let z : ◌≡◌ {A = ℕ} 0 1 = cc in absurd (omega arith)
 unless_refused (Some r) q h = let e : q ≡ r = cc in ap Some (sym e)
 
@@ -78,11 +78,11 @@ module _ {F X : Type 0} (g : Mut F (Bor ℕ × Unit {0}) Bool) (f : F) (keeps : 
       let before : (k : ℕ) → k < i → when (test k) (v k) ≡ None = λ k h. none_when (test k) (v k) (sym (answers k false (omega (arith, few)) (some_and (p.at k) k (λ y. CalledAt g f y false f) (item n p (run.1 ∙ e) k (omega arith)) (both.1 k h)))) in
       sym (first_found (λ j. when (test j) (v j)) n i (v x) (omega (arith, few)) (none_first i (λ j. when (test j) (v j)) before) (ap (λ b. when b (v i)) passes ∙ ap (λ j. Some (v j)) (sym is)))
 
-decided : (b : Bool) (P Q : Type 0) → MatchBool b P Q → ((b ≡ true) × P) ⊎ Q
+pub decided : (b : Bool) (P Q : Type 0) → MatchBool b P Q → ((b ≡ true) × P) ⊎ Q
 decided true P Q h = inl (refl, h)
 decided false P Q h = inr h
 
-refused_by : {E : Type 0} (numbering : E → Refusal) (r : Result (Unit {0}) E) (e : E) → IsErr r × IsErrAnd r (λ y. y ≡ e) → answer_of (λ u. u) numbering r ≡ refused (numbering e)
+pub refused_by : {E : Type 0} (numbering : E → Refusal) (r : Result (Unit {0}) E) (e : E) → IsErr r × IsErrAnd r (λ y. y ≡ e) → answer_of (λ u. u) numbering r ≡ refused (numbering e)
 refused_by numbering (Ok x) e h = absurd h.1
 refused_by numbering (Err y) e h = ap (λ z. refused (numbering z)) h.1
 
@@ -133,7 +133,7 @@ module _ {X Y : Type 0} (v : X → Y) where
   made_answer w (Some x) (Some y) h makes = ap Some (makes x y h)
 
 -- the element at a place
-there : {A : Type 0} (xs : List A) (i : ℕ) → i < length xs → A
+pub there : {A : Type 0} (xs : List A) (i : ℕ) → i < length xs → A
 there [] i h = absurd (omega arith)
 there (x ∷ xs) i h = x
 

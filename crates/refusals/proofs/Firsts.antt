@@ -1,5 +1,5 @@
 -- What searches by number find, and what a loop that makes one knows.
-use Rattle.std.proofs.Common.{◌≡◌, ℕ, zero, suc, ◌+◌, ◌<◌, ◌≤◌, Bool, true, false, ◌⊎◌, Some, None, Option, sym, refl, ap, ◌∙◌, subst, inl, inr, ⊎_elim, add-one, arith}
+use Rattle.std.proofs.Common.{◌≡◌, ℕ, zero, suc, ◌+◌, ◌<◌, ◌≤◌, Bool, true, false, ◌⊎◌, Some, None, Option, sym, refl, subst, inl, inr, ⊎_elim, add-one, arith}
 use Rattle.std.proofs.lemmas.Bool.{and_parts, and_from, and_left, and_right, cases_lt}
 use Rattle.refusals.specs.Searches.{or_else, first, when, every}
 
@@ -36,12 +36,6 @@ module _ {X : Type 0} where
   pub when_some : (b : Bool) (x y : X) → when b x ≡ Some y → (b ≡ true) × (x ≡ y)
   when_some true x y e = (refl, cc)
   when_some false x y e = absurd (some_none y (sym e))
-
-  pub or_stops : (b : Bool) (x : X) (rest : Option X) → b ≡ true → Some x ≡ or_else (when b x) rest
-  or_stops b x rest e = rw e
-
-  pub or_passes : (b : Bool) (x : X) (rest : Option X) → b ≡ false → rest ≡ or_else (when b x) rest
-  or_passes b x rest e = rw e
 
   -- the first answer
 
@@ -81,45 +75,17 @@ pub true_every : (n : ℕ) (f : ℕ → Bool) → ((i : ℕ) → i < n → f i �
 true_every zero f all = refl
 true_every (suc n) f all = and_from (every n f) (f n) (true_every n f (λ i h. all i (omega arith))) (all n (omega arith))
 
--- Loops. The loop stands at j, and its end k is the bound n of the search.
+-- Where a search stops, and one number more.
 
 module _ {X : Type 0} (f : ℕ → Option X) where
-  pub first_more : (j : ℕ) → first j f ≡ None → f j ≡ None → first (j + 1) f ≡ None
-  first_more j h e = rw (add-one, h) e
-
   -- the first answer stays the first
   pub first_found : (n j : ℕ) (a : X) → j < n → first j f ≡ None → f j ≡ Some a → first n f ≡ Some a
   first_found zero j a lt h e = absurd (omega arith)
   first_found (suc n) j a lt h e = ⊎_elim (λ (l : j < n). rw (first_found n j a l h e)) (λ (l : n ≤ j). let P : ℕ → Type 0 = λ k. or_else (first k f) (f k) ≡ Some a in let q : j ≡ n = omega arith in subst P q (rw h e)) (cases_lt j n)
 
-  -- the same, with the answer at j on the left, as a call gives it
-  pub first_passes : (j : ℕ) → first j f ≡ None → None ≡ f j → first (j + 1) f ≡ None
-  first_passes j h e = first_more j h (sym e)
-
-  pub first_answers : (n j : ℕ) (a : X) → j < n → first j f ≡ None → Some a ≡ f j → Some a ≡ first n f
-  first_answers n j a lt h e = sym (first_found n j a lt h (sym e))
-
-  -- the loop stops at j with the answer r, or goes by all
-  pub first_stops : (n k j : ℕ) (r : Option X) (a : X) → k ≡ n → j < k → first j f ≡ None → f j ≡ r → r ≡ Some a → r ≡ first n f
-  first_stops n k j r a q lt h e s = s ∙ sym (first_found n j a (omega arith) h (e ∙ s))
-
-  pub first_ends : (n k j : ℕ) → k ≡ n → j ≤ k → k ≤ j → first j f ≡ None → None ≡ first n f
-  first_ends n k j q below above h = let P : ℕ → Type 0 = λ i. None ≡ first i f in let e : j ≡ n = omega arith in subst P e (sym h)
-
--- the same where the answer at j is v j if the test holds there
-module _ {X : Type 0} (t : ℕ → Bool) (v : ℕ → X) where
-  pub test_more : (j : ℕ) → first j (λ i. when (t i) (v i)) ≡ None → false ≡ t j → first (j + 1) (λ i. when (t i) (v i)) ≡ None
-  test_more j h e = first_more (λ i. when (t i) (v i)) j h (none_when (t j) (v j) (sym e))
-
-  pub test_stops : (n k j : ℕ) → k ≡ n → j < k → first j (λ i. when (t i) (v i)) ≡ None → true ≡ t j → Some (v j) ≡ first n (λ i. when (t i) (v i))
-  test_stops n k j q lt h e = first_stops (λ i. when (t i) (v i)) n k j (Some (v j)) (v j) q lt h (ap (λ b. when b (v j)) (sym e)) refl
-
 module _ (f : ℕ → Bool) where
   pub every_more : (j : ℕ) → every j f ≡ true → f j ≡ true → every (j + 1) f ≡ true
   every_more j h e = rw (add-one, h) e
-
-  pub every_passes : (j : ℕ) (b : Bool) → every j f ≡ true → b ≡ f j → b ≡ true → every (j + 1) f ≡ true
-  every_passes j b h e t = every_more j h (sym e ∙ t)
 
   pub every_fails : (n j : ℕ) → j < n → f j ≡ false → every n f ≡ false
   every_fails zero j lt e = absurd (omega arith)
@@ -127,6 +93,3 @@ module _ (f : ℕ → Bool) where
 
   pub every_stops : (n k j : ℕ) → k ≡ n → j < k → f j ≡ false → false ≡ every n f
   every_stops n k j q lt e = sym (every_fails n j (omega arith) e)
-
-  pub every_ends : (n k j : ℕ) → k ≡ n → j ≤ k → k ≤ j → every j f ≡ true → true ≡ every n f
-  every_ends n k j q below above h = let P : ℕ → Type 0 = λ i. true ≡ every i f in let e : j ≡ n = omega arith in subst P e (sym h)

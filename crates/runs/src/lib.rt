@@ -12,9 +12,8 @@ mod telling;
 
 pub use answers::ReleasedStep;
 pub use faults::{HandedBack, ReleaseFault};
-pub use telling::void;
-
 use sets::Set;
+pub use telling::void;
 
 // Its number, the number of points and letters it was opened for, and sets: the points released, the
 // letters whose token is out, the letters told, and of those the ones told true.
@@ -30,6 +29,7 @@ pub struct Run {
 }
 
 // The right to tell a run the outcome of one test, once. It has to be spent: told or voided.
+// A flag and a condition on the drop, by a rule of the project: letting one go is refused by the prover.
 pub struct Token {
     run: u32,
     letter: u8,

@@ -18,7 +18,10 @@ fn plan_says(rt: &impl Abort, plan: &[u8], fault: HeaderFault) {
 }
 
 fn table_says(rt: &impl Abort, table: &[u8], fault: HeaderFault) {
-    assert_eq!(rt; judge_headers(&PLAN, table), Err(HeadersFault::Table(fault)));
+    assert_eq!(rt;
+        judge_headers(&PLAN, table),
+        Err(HeadersFault::Table(fault))
+    );
 }
 
 fn line_is(rt: &impl Abort, plan: &[u8], table: &[u8], line: &[u8]) -> Result<(), Fail> {

@@ -96,9 +96,6 @@ none_past set i w h l =
 
 -- a set of w bits with one more, as the code adds it
 module _ (set i w : ℕ) (l : i < w) (e : false ≡ has set i) where
-  pub grown : set + (1 * 2 ^ i) % 2 ^ w ≡ joined set i
-  grown = ap (λ n. set + n) (one_shl i w l) ∙ sym (cond-false (has set i) set (set + 2 ^ i) (sym e))
-
   pub grown_below : set < 2 ^ w → set + (1 * 2 ^ i) % 2 ^ w < 2 ^ w
   grown_below h = subst (λ n. set + n < 2 ^ w) (sym (one_shl i w l)) (below_add set i w (sym e) l h)
 

@@ -60,12 +60,18 @@ impl Set {
 }
 
 // The set whose bits these are.
+impl From<u64> for Set {
+    ghost from_gives = { λ bits set. set ≡ bits };
+
+    fn from(bits: u64) -> Set {
+        Set { bits }
+    }
+}
+
 impl From<u8> for Set {
     ghost from_gives = { λ bits set. set ≡ bits };
 
     fn from(bits: u8) -> Set {
-        Set {
-            bits: u64::from(bits),
-        }
+        Set::from(u64::from(bits))
     }
 }

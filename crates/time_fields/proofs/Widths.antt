@@ -5,10 +5,6 @@ use Rattle.times.specs.declared.codings.Kind.TheVariants.{Whole, Fine}
 use Rattle.times.specs.Coding.{width_of, time_bytes}
 use Rattle.times.specs.Moments.{Moment}
 
-pub width_more : (kind : Kind) (i : ℕ) → width_of kind * (i + 1) ≡ width_of kind * i + width_of kind
-width_more Whole i = omega arith
-width_more Fine i = omega arith
-
 pub width_small : (kind : Kind) → width_of kind ≤ 8
 width_small Whole = omega arith
 width_small Fine = omega arith

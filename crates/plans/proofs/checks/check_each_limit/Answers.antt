@@ -5,7 +5,7 @@ use Rattle.plans.specs.Faults.{memory_fault}
 use Rattle.plans.specs.Memory.{limit_refusal}
 use Rattle.plans.specs.Views.{plan_of}
 use Rattle.plans.proofs.Views.{limits_of, asked, limit_asked}
-use Rattle.plans.proofs.Numbered.{each_listed}
+use Rattle.refusals.proofs.Numbered.{each_listed}
 use Rattle.plans.proofs.checks.check_each_limit.Goals as goal
 
 pub returns : goal.returns
