@@ -10,10 +10,11 @@ use Rattle.times.specs.declared.codings.Kind.TheVariants.{Whole, Fine}
 use Rattle.times.specs.Coding.{width_of, time_bytes}
 use Rattle.times.specs.Moments.{Moment}
 use Rattle.time_fields.specs.Kinds.{OfKind}
-use Rattle.time_fields.proofs.Widths.{width_more, length-time_bytes}
+use Rattle.time_fields.proofs.Widths.{length-time_bytes}
 use Rattle.heads.specs.declared.Head.{Head}
 use Rattle.table_files.specs.Layouts.{time_place}
 use Rattle.table_files.specs.Writings.{header_bytes, table_bytes}
+use Rattle.table_files.proofs.Timed.{width_more}
 
 pub length-times : (kind : Kind) (ms : List Moment) → length (flat_map (time_bytes kind) ms) ≡ width_of kind * length ms
 length-times Whole [] = refl

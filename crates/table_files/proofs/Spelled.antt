@@ -7,10 +7,11 @@ use Rattle.times.specs.declared.codings.Kind.TheVariants.{Whole, Fine}
 use Rattle.times.specs.Coding.{width_of, time_at, time_bytes}
 use Rattle.times.specs.Moments.{Moment}
 use Rattle.time_fields.specs.Kinds.{OfKind}
-use Rattle.time_fields.proofs.Widths.{width_more, length-time_bytes}
+use Rattle.time_fields.proofs.Widths.{length-time_bytes}
 use Rattle.time_fields.proofs.Spelled.{Bytes, all_bytes, recoded, time_here}
 use Rattle.table_files.specs.Layouts.{time_place}
 use Rattle.table_files.specs.Readings.{times_in}
+use Rattle.table_files.proofs.Timed.{width_more}
 
 module _ (kind : Kind) (file : List ℕ) where
   pub times_there : (ts : List Moment) (at i : ℕ) (d : Moment) → drop at file ≡ flat_map (time_bytes kind) ts → AllByRecursion (OfKind kind) ts → i < length ts → time_at kind file (at + width_of kind * i) ≡ get_or ts i d

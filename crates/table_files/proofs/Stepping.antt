@@ -1,5 +1,5 @@
 -- The answer of a whole table file from those of its parts.
-use Rattle.std.proofs.Common.{◌≡◌, ℕ, zero, suc, ◌+◌, ◌-◌, ◌*◌, ◌^◌, ◌<◌, ◌≤◌, Bool, true, false, ltb, List, [], ◌∷◌, length, sym, refl, ap, ◌∙◌, subst, suc-mul, arith, pow_pos}
+use Rattle.std.proofs.Common.{◌≡◌, ℕ, zero, suc, ◌+◌, ◌-◌, ◌*◌, ◌^◌, ◌<◌, ◌≤◌, Bool, true, false, ltb, List, [], ◌∷◌, length, sym, refl, ap, ◌∙◌, subst, inl, inr, suc-mul, arith, pow_pos}
 use Rattle.std.proofs.lemmas.Bool.{le-leb, lt-leb, ltb-true, ltb-false}
 use Rattle.refusals.specs.Answers.{Answer, given, refused, unless, refusal_at}
 use Rattle.refusals.specs.declared.Refusal.{Refusal}
@@ -8,8 +8,8 @@ use Rattle.fields.specs.Laid.{passing}
 use Rattle.fields.specs.Readings.{end_field}
 use Rattle.fields.proofs.Chains.{never, onward, halted, judged}
 use Rattle.fields.proofs.Laid.{yes, kept_at, length-laid}
+use Rattle.fields.proofs.Readings.{kept_checked, first_checked}
 use Rattle.fields.proofs.Readings as readings
-use Rattle.time_fields.proofs.Widths.{width_more}
 use Rattle.times.specs.declared.codings.Kind.{Kind}
 use Rattle.times.specs.Coding.{width_of}
 use Rattle.times.specs.Moments.{Moment}
@@ -18,6 +18,7 @@ use Rattle.heads.specs.declared.Head.{Head}
 use Rattle.table_files.specs.Layouts.{table_size, time_place, table_length, header_fields, table_time, row_fields, time_fields, body_fields}
 use Rattle.refusals.specs.Rooms.{room_answer}
 use Rattle.table_files.specs.Readings.{times_in, counted, end_answer, read_table}
+use Rattle.table_files.proofs.Timed.{width_more}
 
 last_number : (r n : ℕ) → 0 < r → 0 < n → (r - 1) * n + (n - 1) + 1 ≡ r * n
 last_number zero n h k = absurd (omega arith)
@@ -93,9 +94,9 @@ module _ (kind : Kind) (head : Head) (file : List ℕ) (room : ℕ) where
         end_stops r h =
             let p = refused_when (ltb end (length file)) (refusal_at 10 end) r h in
             let past = subst (λ n. n < length file) at_end (ltb-true end (length file) p.0) in
-            ap refused p.1 ∙ ap (λ n. refused (refusal_at 10 n)) at_end ∙ ap counted (readings.field_refuses file (end_field file (table_length kind head)) times reached (lt-leb _ _ past) ∙ ending)
+            ap refused p.1 ∙ ap (λ n. refused (refusal_at 10 n)) at_end ∙ ap counted (sym (first_checked file (end_field file (table_length kind head) ∷ []) times _ (inl (inr (record { there = reached; broken = lt-leb _ _ past; named = refl })))) ∙ ending)
 
         pub all_passed : yes ≡ end_answer file end → given size ≡ whole
         all_passed h =
             let within = subst (λ n. length file ≤ n) at_end (ltb-false end (length file) (given_when (ltb end (length file)) (refusal_at 10 end) h)) in
-            ap given (e ∙ sym (length-laid _ (table_size head))) ∙ ap counted (readings.field_gives file (end_field file (table_length kind head)) times reached (le-leb _ _ within) ∙ ending)
+            ap given (e ∙ sym (length-laid _ (table_size head))) ∙ ap counted (sym (kept_checked file (end_field file (table_length kind head) ∷ []) times (record { there = reached; kept = le-leb _ _ within }, tt)) ∙ ending)

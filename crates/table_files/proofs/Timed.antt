@@ -13,6 +13,10 @@ use Rattle.fields.specs.Laid.{passing}
 use Rattle.fields.proofs.Chains.{never}
 use Rattle.table_files.specs.Layouts.{time_place, table_time}
 
+pub width_more : (kind : Kind) (i : ℕ) → width_of kind * (i + 1) ≡ width_of kind * i + width_of kind
+width_more Whole i = omega arith
+width_more Fine i = omega arith
+
 -- the time with a number ends before the first one that is not there begins
 pub place_in : (kind : Kind) (i n : ℕ) → i < n → time_place kind i + width_of kind ≤ time_place kind n
 place_in Whole i n h = omega arith
