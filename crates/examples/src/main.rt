@@ -99,10 +99,6 @@ fn judge_pair<'a, T: Time>(head: &'a Head, limits: &'a [Limit<T>], times: &'a [T
     Verdict(judge(&pair, &head.rule()))
 }
 
-fn with_times<T: Time>(head: &Head, limits: &[Limit<T>], ticks: [i32; 6]) -> Verdict {
-    judge_pair(head, limits, &ticks.map(|t| whole_ticks::<T>(t)))
-}
-
 fn head_of(points: u8, tests: &[u8], round: u32, delay: u32) -> anyhow::Result<Head> {
     Head::new(points, tests, round, delay).map_err(|_| anyhow!("no such head"))
 }
@@ -116,8 +112,10 @@ fn show(rt: &HostRuntime, example: Example) -> anyhow::Result<()> {
     let [a, b, c, d, e, f] = times;
     println!(rt; "r = {round}, d = {delay}, rows {a} {b} {c} / {d} {e} {f}")?;
     let head = head_of(3, &[1], round, delay)?;
-    println!(rt; "  whole: {}", with_times::<Whole>(&head, &[], times))?;
-    println!(rt; "  fine: {}", with_times::<Fine>(&head, &[], times))?;
+    let whole = times.map(whole_ticks::<Whole>);
+    let fine = times.map(whole_ticks::<Fine>);
+    println!(rt; "  whole: {}", judge_pair(&head, &[], &whole))?;
+    println!(rt; "  fine: {}", judge_pair(&head, &[], &fine))?;
     Ok(())
 }
 
@@ -136,41 +134,27 @@ fn show_limit(rt: &HostRuntime) -> anyhow::Result<()> {
     println!(rt; "limit from 1 to 2 of 3 where letter 0 is true, rows 0 2 5 / 0 2 7")?;
     let head = head_of(3, &[1], 0, 0)?;
     let times = [0, 2, 5, 0, 2, 7];
-    println!(rt;
-        "  whole: {}",
-        with_times::<Whole>(&head, &[close()], times)
-    )?;
-    println!(rt; "  fine: {}", with_times::<Fine>(&head, &[close()], times))?;
+    let whole = times.map(whole_ticks::<Whole>);
+    let fine = times.map(whole_ticks::<Fine>);
+    println!(rt; "  whole: {}", judge_pair(&head, &[close()], &whole))?;
+    println!(rt; "  fine: {}", judge_pair(&head, &[close()], &fine))?;
     Ok(())
-}
-
-fn fine(ticks: i32, grains: i32) -> Fine {
-    Fine { ticks, grains }
 }
 
 fn show_grains(rt: &HostRuntime) -> anyhow::Result<()> {
     println!(rt; "rows 0 2 2+1 / 0 2 3")?;
     let head = head_of(3, &[1], 0, 0)?;
-    let times = [
-        fine(0, 0),
-        fine(2, 0),
-        fine(2, 1),
-        fine(0, 0),
-        fine(2, 0),
-        fine(3, 0),
-    ];
+    let times = [(0, 0), (2, 0), (2, 1), (0, 0), (2, 0), (3, 0)];
+    let times = times.map(|(ticks, grains)| Fine { ticks, grains });
     println!(rt; "  fine: {}", judge_pair(&head, &[], &times))?;
     Ok(())
-}
-
-fn whole(ticks: i32) -> Whole {
-    Whole { ticks }
 }
 
 fn show_four_rows(rt: &HostRuntime) -> anyhow::Result<()> {
     println!(rt; "tests 1 and 2, rows 0 1 2 5 / 0 1 2 2 / 0 1 2 5 / 0 1 2 3")?;
     let head = head_of(4, &[1, 2], 0, 0)?;
-    let times = [0, 1, 2, 5, 0, 1, 2, 2, 0, 1, 2, 5, 0, 1, 2, 3].map(whole);
+    let times = [0, 1, 2, 5, 0, 1, 2, 2, 0, 1, 2, 5, 0, 1, 2, 3];
+    let times = times.map(|ticks| Whole { ticks });
     println!(rt; "  whole: {}", judge_pair(&head, &[], &times))?;
     Ok(())
 }
