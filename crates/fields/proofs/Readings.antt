@@ -1,9 +1,9 @@
 -- What the answer of a file says of its fields, and the answer from those of its parts.
-use Rattle.std.proofs.Common.{◌≡◌, ℕ, ◌+◌, ◌≤◌, Bool, true, false, cond, ltb, List, [], ◌∷◌, length, sym, refl, ap, ◌∙◌, subst, inl, inr}
+use Rattle.std.proofs.Common.{◌≡◌, ℕ, ◌≤◌, Bool, true, false, cond, ltb, List, [], ◌∷◌, sym, refl, ap, ◌∙◌, subst, inl, inr}
 use Rattle.std.proofs.lemmas.Bool.{le-leb, lt-leb, ltb-true, ltb-false, lt-ltb, le-ltb}
 use Rattle.refusals.specs.Answers.{Answer, given, refused, and_then, refusal_at}
 use Rattle.refusals.specs.declared.Refusal.{Refusal}
-use Rattle.fields.specs.Fields.{Field, number_at, checked, AllKept, FirstRefused, JudgedFields}
+use Rattle.fields.specs.Fields.{Field, checked, AllKept, FirstRefused, JudgedFields}
 use Rattle.fields.specs.Laid.{passing}
 use Rattle.refusals.specs.Rooms.{room_answer}
 use Rattle.fields.specs.Readings.{read_file, AllRead, ReadRefused, in_header, no_room, in_body, ReadSays, RefusedExactly}
@@ -21,15 +21,6 @@ first_checked file [] x r h = absurd h
 first_checked file (f ∷ fs) x r (inl (inl e)) = rw (lt-leb _ _ e.ends) (ap refused (sym e.named))
 first_checked file (f ∷ fs) x r (inl (inr b)) = rw (le-leb _ _ b.there, b.broken) (ap refused (sym b.named))
 first_checked file (f ∷ fs) x r (inr k) = rw (le-leb _ _ k.0.there, k.0.kept) (first_checked file fs x r k.1)
-
--- one field
-
-module _ {X : Type 0} (file : List ℕ) (f : Field) (x : X) (there : f.from + f.width ≤ length file) where
-  pub field_gives : f.keeps (number_at file f.from f.width) ≡ true → given x ≡ checked file (f ∷ []) x
-  field_gives k = sym (kept_checked file (f ∷ []) x (record { there = there; kept = k }, tt))
-
-  pub field_refuses : f.keeps (number_at file f.from f.width) ≡ false → refused (refusal_at f.number f.from) ≡ checked file (f ∷ []) x
-  field_refuses k = sym (first_checked file (f ∷ []) x _ (inl (inr (record { there = there; broken = k; named = refl }))))
 
 given_room : (b : Bool) (r : Refusal) → yes ≡ cond b (refused r) (given tt) → b ≡ false
 given_room true r e = never r tt (sym e)

@@ -83,13 +83,14 @@ fn plan_start(file: &[u8]) -> Result<(Kind, usize), HeaderFault>
     Ok((kind, place))
 }
 
+// The readers below take the file and a place, and no struct that moves along: its place before and after each field
+// would stand in every contract.
+
 // A count of one byte, from least to most.
 fn count_at(file: &[u8], at: usize, least: u8, most: u8) -> Result<u8, HeaderFault>
     ensures { answer_of (λ x. x) header_refusal result ≡ field_answer file.now (count_field at 1 least most) }
 {
-    let Some(count) = file.get(at).copied() else {
-        return Err(HeaderFault::Ended(file.len()));
-    };
+    let count = *file.get(at).ok_or(HeaderFault::Ended(file.len()))?;
     if count < least || count > most {
         return Err(HeaderFault::Count(at));
     }
@@ -100,9 +101,7 @@ fn count_at(file: &[u8], at: usize, least: u8, most: u8) -> Result<u8, HeaderFau
 fn limits_at(file: &[u8], at: usize) -> Result<u16, HeaderFault>
     ensures { answer_of (λ x. x) header_refusal result ≡ field_answer file.now (count_field at 2 0 256) }
 {
-    let Some(bytes) = bytes_at(file, at) else {
-        return Err(HeaderFault::Ended(file.len()));
-    };
+    let bytes = bytes_at(file, at).ok_or(HeaderFault::Ended(file.len()))?;
     let limits = u16::from_be_bytes(bytes);
     if limits > 256 {
         return Err(HeaderFault::Count(at));
@@ -114,9 +113,7 @@ fn limits_at(file: &[u8], at: usize) -> Result<u16, HeaderFault>
 fn figure_at(file: &[u8], at: usize) -> Result<u32, HeaderFault>
     ensures { answer_of (λ x. x) header_refusal result ≡ field_answer file.now (figure_field at) }
 {
-    let Some(bytes) = bytes_at(file, at) else {
-        return Err(HeaderFault::Ended(file.len()));
-    };
+    let bytes = bytes_at(file, at).ok_or(HeaderFault::Ended(file.len()))?;
     let figure = u32::from_be_bytes(bytes);
     if figure > 1_000_000 {
         return Err(HeaderFault::Figure(at));

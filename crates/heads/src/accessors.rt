@@ -41,14 +41,14 @@ impl Head {
         (letter < self.letters).then(|| self.point(letter))
     }
 
-    // The point of a test, by its letter, and 0 where there is no such test.
+    // The same, and 0 where there is no such test: what is said of rows then needs no case for it.
     pub fn point(&self, letter: u8) -> u8
         ensures { result ≡ point_of self.now letter }
     {
         self.tests.get(usize::from(letter)).copied().unwrap_or(0)
     }
 
-    // The ticks of a round, and 0 where the rule is prompt.
+    // The ticks of a round, and 0 where the rule is prompt: the number that stands in a plan file.
     pub fn round(&self) -> u32
         ensures { result ≡ self.now.round }
     {

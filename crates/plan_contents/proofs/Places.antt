@@ -6,7 +6,7 @@ use Rattle.times.specs.declared.codings.Kind.TheVariants.{Whole, Fine}
 use Rattle.times.specs.Coding.{width_of}
 use Rattle.files.specs.declared.headers.PlanHeader.{PlanHeader}
 use Rattle.plan_records.specs.Names.{name_size, name_place}
-use Rattle.plan_records.specs.Records.{Sort, a_name, a_test, a_limit, the_end, kind, first_place, record_count, sort_of, size_of, record_place}
+use Rattle.plan_records.specs.Records.{Sort, a_name, a_test, a_limit, kind, first_place, record_count, sort_of, size_of, record_place}
 
 -- how many bytes a limit takes
 abbrev pub limit_size : Kind → ℕ
@@ -26,10 +26,6 @@ module _ (h : PlanHeader) where
   pub limit_sort : (j : ℕ) → j < h.limits → sort_of h (h.points + h.tests + j) ≡ a_limit
   limit_sort j l =
       rw (le-ltb (h.points + h.tests + j) h.points (omega arith), le-ltb (h.points + h.tests + j) (h.points + h.tests) (omega arith), lt-ltb (h.points + h.tests + j) (record_count h) (omega arith))
-
-  pub end_sort : sort_of h (record_count h) ≡ the_end
-  end_sort =
-      rw (le-ltb (record_count h) h.points (omega arith), le-ltb (record_count h) (h.points + h.tests) (omega arith), le-ltb (record_count h) (record_count h) (omega arith))
 
   module _ (file : List ℕ) where
     -- a record of a known sort ends so much later

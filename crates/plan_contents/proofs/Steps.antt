@@ -14,12 +14,6 @@ use Rattle.plan_records.specs.Readers.{next_answer, after, stood}
 use Rattle.plan_records.specs.declared.readers.Reader.{Reader}
 use Rattle.plan_records.proofs.Recording.{record_inside}
 
-pub stood_first : (r : Reader) → r.taken ≡ 0 → r.place ≡ first_place → r ≡ stood r 0
-stood_first r t p =
-    let taken : ℕ → Reader = λ n. record { file = r.file; header = r.header; taken = n; place = r.place } in
-    let place : ℕ → Reader = λ n. record { file = r.file; header = r.header; taken = 0; place = n } in
-    ap taken t ∙ ap place p
-
 module _ (h : PlanHeader) where
   -- what stands past the last record
   pub sort_end : (i : ℕ) → record_count h ≤ i → sort_of h i ≡ the_end

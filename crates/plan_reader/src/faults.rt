@@ -1,7 +1,7 @@
 // Why a plan file is not read.
 ghost use Rattle.std.specs.Prelude.{◌≡◌};
 ghost use Rattle.plan_reader.specs.Faults.{plan_refusal};
-ghost use Rattle.plan_reader.specs.declared.faults.PlanFault.TheVariants.{InHeader, InRecord};
+ghost use Rattle.plan_reader.specs.declared.faults.PlanFault.TheVariants.{InHeader, InRecord, NoRoom};
 
 use files::headers::HeaderFault;
 use plan_records::RecordFault;
@@ -45,7 +45,7 @@ impl From<RecordFault> for PlanFault {
 }
 
 impl From<NoRoom> for PlanFault {
-    ghost from_gives = { λ f r. r ≡ PlanFault.NoRoom f };
+    ghost from_gives = { λ f r. r ≡ NoRoom f };
 
     fn from(fault: NoRoom) -> PlanFault {
         PlanFault::NoRoom(fault)

@@ -1,5 +1,5 @@
 // What a plan file that was checked holds.
-ghost use Rattle.std.specs.Prelude.{◌≡◌, ◌+◌, ◌*◌, ◌<◌, ◌≤◌, [], ◌∷◌, map, length, take, drop, slice_set};
+ghost use Rattle.std.specs.Prelude.{◌≡◌, ◌+◌, ◌*◌, ◌≤◌, [], ◌∷◌, map, length, take, drop};
 ghost use Rattle.fields.specs.Laid.{laid};
 ghost use Rattle.times.specs.Coding.{width_of};
 ghost use Rattle.heads.specs.Heads.{IsHead, outline, outline_of};
@@ -29,16 +29,9 @@ pub(crate) fn fill_limits<T: Time>(file: &[u8], at: usize, count: usize, limits:
     ensures front { map (limit_of T.Time.moment) (take count limits.new) ≡ laid count (λ j. limit_in T.Time.kind file.now (at + (4 + width_of T.Time.kind) * j) ∷ []) }
     ensures rest { drop count limits.new ≡ drop count limits.old }
 {
-    for j in 0..count {
-        store(limits, j, limit_at(file, at + (4 + T::width()) * j));
+    for (j, slot) in limits[..count].iter_mut().enumerate() {
+        *slot = limit_at(file, at + (4 + T::width()) * j);
     }
-}
-
-fn store<X: Copy>(items: &mut [X], at: usize, item: X)
-    requires { at < length items.old }
-    ensures { items.new ≡ slice_set items.old at item }
-{
-    items[at] = item;
 }
 
 // The limit at a place.

@@ -7,6 +7,7 @@ mod faults;
 mod filling;
 mod names;
 mod reading;
+mod records;
 
 pub use faults::PlanFault;
 pub use names::{read_name, read_names};

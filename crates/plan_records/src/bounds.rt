@@ -13,6 +13,7 @@ use times::{Kind, Time, TimeFault};
 use whole::Whole;
 
 // Whether the bound at a place is there and keeps its rule.
+// The kind comes from the file, so a match picks the type; a type parameter could not.
 pub(crate) fn check_bound(file: &[u8], header: &PlanHeader, at: usize) -> Result<(), TimeFault>
     ensures { answer_of (λ u. u) time_refusal result ≡ passing file.now (bound_field header.now file.now at ∷ []) }
 {

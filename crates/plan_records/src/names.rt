@@ -1,20 +1,13 @@
 // Names, as they lie in a plan file or in a run of names.
-ghost use Rattle.std.specs.Prelude.{◌≡◌, ◌+◌, ◌*◌, ◌^◌, ◌<◌, ◌≤◌, [], ◌∷◌, length, slice_index};
+ghost use Rattle.std.specs.Prelude.{◌≡◌, ◌+◌, ◌*◌, ◌≤◌, true, [], ◌∷◌, length, drop, slice_index};
 ghost use Rattle.refusals.specs.Answers.{answer_of};
 ghost use Rattle.fields.specs.Fields.{between, checked, field_answer};
 ghost use Rattle.fields.specs.Laid.{passing};
 ghost use Rattle.plan_records.specs.Faults.{record_refusal};
 ghost use Rattle.fields.specs.Readings.{end_field};
-ghost use Rattle.plan_records.specs.Names.{length_field, name_field, name_fields, name_place, name_size, names_fields, new_name, printable, run_fields, same_name};
+ghost use Rattle.plan_records.specs.Names.{length_field, name_field, name_fields, name_place, name_size, names_fields, new_name, printable, run_fields};
 
 use crate::faults::RecordFault;
-
-// The byte at a place, and 0 past the end.
-pub(crate) fn byte_at(bytes: &[u8], at: usize) -> u8
-    ensures { result ≡ slice_index bytes.now at }
-{
-    if at < bytes.len() { bytes[at] } else { 0 }
-}
 
 // Whether a run of bytes is so many names and nothing more.
 pub fn check_names(names: &[u8], points: u8) -> Result<(), RecordFault>
@@ -29,9 +22,15 @@ fn names_end(names: &[u8], points: u8) -> Result<usize, RecordFault>
     ensures { answer_of (λ n. n) record_refusal result ≡ checked names.now (names_fields names.now 0 points) (name_place names.now 0 points) }
 {
     let mut at = 0;
-    for i in 0..points {
-        let size = name_size_at(names, 0, i, at)?;
-        at += size;
+    // a fold that stops at a fault would need a function for its step, and be no plainer
+    for number in 0..points {
+        let name = NameAt {
+            bytes: names,
+            start: 0,
+            number,
+            at,
+        };
+        at += name.size()?;
     }
     Ok(at)
 }
@@ -49,94 +48,99 @@ pub(crate) fn check_end(bytes: &[u8], end: usize) -> Result<(), RecordFault>
     Ok(())
 }
 
-// How many bytes the name at a place takes, where it keeps its rules among the names from a start on.
-pub(crate) fn name_size_at(
-    bytes: &[u8],
-    start: u8,
-    number: u8,
-    at: usize,
-) -> Result<usize, RecordFault>
-    ensures { answer_of (λ n. n) record_refusal result ≡ checked bytes.now (name_fields bytes.now start number at) (name_size bytes.now at) }
+// The byte at a place, and 0 past the end.
+fn byte_at(bytes: &[u8], at: usize) -> u8
+    ensures { result ≡ slice_index bytes.now at }
 {
-    let length = length_at(bytes, at)?;
-    check_name(bytes, start, number, at)?;
-    Ok(1 + usize::from(length))
+    bytes.get(at).copied().unwrap_or(0)
 }
 
-// The length byte of a name.
-fn length_at(bytes: &[u8], at: usize) -> Result<u8, RecordFault>
-    ensures { answer_of (λ x. x) record_refusal result ≡ field_answer bytes.now (length_field bytes.now at) }
+// The bytes from a place on, and none past the end.
+pub(crate) fn rest_from(bytes: &[u8], at: usize) -> &[u8]
+    ensures { result.now ≡ drop at bytes.now }
 {
-    if at >= bytes.len() {
-        return Err(RecordFault::Ended(bytes.len()));
-    }
-    let length = bytes[at];
-    if length < 1 || length > 16 {
-        return Err(RecordFault::Name(at));
-    }
-    Ok(length)
+    bytes.get(at..).unwrap_or(&[])
 }
 
-// Whether a name is there, is printable, and is none of those before it.
-fn check_name(bytes: &[u8], start: u8, number: u8, at: usize) -> Result<(), RecordFault>
-    ensures { answer_of (λ u. u) record_refusal result ≡ passing bytes.now (name_field bytes.now start number at ∷ []) }
-{
-    let size = 1 + usize::from(byte_at(bytes, at));
-    if at > bytes.len() || bytes.len() - at < size {
-        return Err(RecordFault::Ended(bytes.len()));
-    }
-    if !is_printable(bytes, at) || !is_new_name(bytes, start, number, at) {
-        return Err(RecordFault::Name(at));
-    }
-    Ok(())
+// The name with a number, at a place among the names that lie one after another from a start on.
+#[derive(Clone, Copy)]
+pub(crate) struct NameAt<'a> {
+    pub(crate) bytes: &'a [u8],
+    pub(crate) start: u8,
+    pub(crate) number: u8,
+    pub(crate) at: usize,
 }
 
-fn is_printable(bytes: &[u8], at: usize) -> bool
-    requires { at + name_size bytes.now at ≤ length bytes.now }
-    ensures { result ≡ printable bytes.now at }
-{
-    let length = usize::from(bytes[at]);
-    for j in 0..length {
-        if !is_visible(bytes[at + 1 + j]) {
-            return false;
+impl NameAt<'_> {
+    // How many bytes the name takes, where it keeps its rules.
+    pub(crate) fn size(&self) -> Result<usize, RecordFault>
+        ensures { answer_of (λ n. n) record_refusal result ≡ checked self.now.bytes.now (name_fields self.now.bytes.now self.now.start self.now.number self.now.at) (name_size self.now.bytes.now self.now.at) }
+    {
+        let length = self.length()?;
+        self.check()?;
+        Ok(1 + usize::from(length))
+    }
+
+    // The length byte.
+    fn length(&self) -> Result<u8, RecordFault>
+        ensures { answer_of (λ x. x) record_refusal result ≡ field_answer self.now.bytes.now (length_field self.now.bytes.now self.now.at) }
+    {
+        let Some(&length) = self.bytes.get(self.at) else {
+            return Err(RecordFault::Ended(self.bytes.len()));
+        };
+        if !(1..=16).contains(&length) {
+            return Err(RecordFault::Name(self.at));
         }
+        Ok(length)
     }
-    true
+
+    // Whether the name is there, is printable, and is none of those before it.
+    fn check(&self) -> Result<(), RecordFault>
+        requires { 1 ≤ slice_index self.now.bytes.now self.now.at }
+        ensures { answer_of (λ u. u) record_refusal result ≡ passing self.now.bytes.now (name_field self.now.bytes.now self.now.start self.now.number self.now.at ∷ []) }
+    {
+        let size = 1 + usize::from(byte_at(self.bytes, self.at));
+        if rest_from(self.bytes, self.at).len() < size {
+            return Err(RecordFault::Ended(self.bytes.len()));
+        }
+        if !self.is_printable() || !self.is_new() {
+            return Err(RecordFault::Name(self.at));
+        }
+        Ok(())
+    }
+
+    fn is_printable(&self) -> bool
+        requires { self.now.at + name_size self.now.bytes.now self.now.at ≤ length self.now.bytes.now }
+        ensures { result ≡ printable self.now.bytes.now self.now.at }
+    {
+        let from = self.at + 1;
+        let end = from + usize::from(self.bytes[self.at]);
+        self.bytes[from..end].iter().all(|byte| is_visible(*byte))
+    }
+
+    // Whether none of the names before it is equal to it.
+    fn is_new(&self) -> bool
+        requires there { self.now.at + name_size self.now.bytes.now self.now.at ≤ length self.now.bytes.now }
+        requires some { 1 ≤ slice_index self.now.bytes.now self.now.at }
+        requires visible { printable self.now.bytes.now self.now.at ≡ true }
+        ensures { result ≡ new_name self.now.bytes.now self.now.start self.now.number self.now.at }
+    {
+        let size = 1 + usize::from(self.bytes[self.at]);
+        let name = &self.bytes[self.at..self.at + size];
+        let mut earlier = usize::from(self.start);
+        // a name's place follows from the name before it: a chain would have to carry the place along
+        for _i in 0..self.number {
+            if rest_from(self.bytes, earlier).starts_with(name) {
+                return false;
+            }
+            earlier += 1 + usize::from(byte_at(self.bytes, earlier));
+        }
+        true
+    }
 }
 
 fn is_visible(byte: u8) -> bool
     ensures { result ≡ between 0x21 0x7E byte }
 {
-    0x21 <= byte && byte <= 0x7E
-}
-
-// Whether none of the names before a name is equal to it.
-fn is_new_name(bytes: &[u8], start: u8, number: u8, at: usize) -> bool
-    requires { at + name_size bytes.now at ≤ length bytes.now }
-    ensures { result ≡ new_name bytes.now start number at }
-{
-    let mut earlier = usize::from(start);
-    for j in 0..number {
-        if is_same_name(bytes, earlier, at) {
-            return false;
-        }
-        earlier += 1 + usize::from(byte_at(bytes, earlier));
-    }
-    true
-}
-
-fn is_same_name(bytes: &[u8], one: usize, other: usize) -> bool
-    requires { (one < 2 ^ 32) × (other + name_size bytes.now other ≤ length bytes.now) }
-    ensures { result ≡ same_name bytes.now one other }
-{
-    let size = 1 + usize::from(byte_at(bytes, one));
-    if size != 1 + usize::from(bytes[other]) {
-        return false;
-    }
-    for j in 0..size {
-        if byte_at(bytes, one + j) != bytes[other + j] {
-            return false;
-        }
-    }
-    true
+    (0x21..=0x7E).contains(&byte)
 }

@@ -7,17 +7,17 @@ ghost use Rattle.plan_records.specs.Faults.{record_refusal};
 ghost use Rattle.plan_records.specs.Readers.{Opened, after, next_answer, opened_header, shown};
 
 use crate::faults::RecordFault;
-use crate::sizes::{Sort, record_size, sort_of};
+use crate::sizes::Sort;
 use files::headers::{HeaderFault, PlanHeader, read_plan_header_of};
 use times::Kind;
 
 // A plan file, what its header says, how many records have been read, and the place of the next.
 #[derive(Clone, Copy)]
 pub struct Reader<'a> {
-    file: &'a [u8],
-    header: PlanHeader,
-    taken: usize,
-    place: usize,
+    pub(crate) file: &'a [u8],
+    pub(crate) header: PlanHeader,
+    pub(crate) taken: usize,
+    pub(crate) place: usize,
 }
 
 // A record, shown as its part of the file.
@@ -65,17 +65,14 @@ impl<'a> Reader<'a> {
         ensures answer { answer_of (option_map shown) record_refusal result ≡ next_answer self.old }
         ensures moved { self.new ≡ after self.old (next_answer self.old) }
     {
-        let header = self.header;
-        let size = record_size(self.file, &header, self.taken, self.place)?;
-        let file = self.file;
-        let from = self.place;
-        let end = from + size;
-        let part = &file[from..end];
-        let record = match sort_of(&header, self.taken) {
-            Sort::Name => Record::Name(part),
-            Sort::Test => Record::Test(part),
-            Sort::Limit => Record::Limit(part),
-            Sort::End => return Ok(None),
+        // size and next both match the sort: a match that gave both would cut the part in each arm
+        let end = self.place + self.size()?;
+        let part = &self.file[self.place..end];
+        let record = match self.sort() {
+            Some(Sort::Name) => Record::Name(part),
+            Some(Sort::Test) => Record::Test(part),
+            Some(Sort::Limit) => Record::Limit(part),
+            None => return Ok(None),
         };
         self.taken += 1;
         self.place = end;

@@ -1,4 +1,4 @@
-// The record with a number at a place of a plan file.
+// How many bytes the next record of a reader takes.
 ghost use Rattle.std.specs.Prelude.{◌≡◌, ◌<◌, [], ◌∷◌};
 ghost use Rattle.refusals.specs.Answers.{answer_of};
 ghost use Rattle.fields.specs.Fields.{checked};
@@ -10,109 +10,105 @@ ghost use Rattle.plan_records.specs.Sorts.{meant};
 
 use crate::bounds::check_bound;
 use crate::faults::RecordFault;
-use crate::names::{check_end, name_size_at};
-use files::headers::PlanHeader;
+use crate::names::{NameAt, check_end, rest_from};
+use crate::readers::Reader;
 use heads::is_test;
 use plans::{Limit, is_fitting};
 
-// What a record is, or the end after the last one.
-#[derive(Clone, Copy)]
+// What a record is.
+#[derive(Clone, Copy, PartialEq, Eq, Debug)]
 pub(crate) enum Sort {
     Name,
     Test,
     Limit,
-    End,
 }
 
-// What the record with a number is.
-pub(crate) fn sort_of(header: &PlanHeader, number: usize) -> Sort
-    ensures { meant result ≡ sort_of header.now number }
-{
-    let names = usize::from(header.points);
-    let tests = names + usize::from(header.tests);
-    if number < names {
-        return Sort::Name;
+impl Reader<'_> {
+    // What the next record is, or none after the last.
+    pub(crate) fn sort(&self) -> Option<Sort>
+        ensures { meant result ≡ sort_of self.now.header self.now.taken }
+    {
+        let names = usize::from(self.header.points);
+        let tests = names + usize::from(self.header.tests);
+        if self.taken < names {
+            return Some(Sort::Name);
+        }
+        if self.taken < tests {
+            return Some(Sort::Test);
+        }
+        if self.taken < tests + usize::from(self.header.limits) {
+            return Some(Sort::Limit);
+        }
+        None
     }
-    if number < tests {
-        return Sort::Test;
-    }
-    if number < tests + usize::from(header.limits) {
-        return Sort::Limit;
-    }
-    Sort::End
-}
 
-// How many bytes the record with a number takes at a place, where it keeps its rules there.
-pub(crate) fn record_size(
-    file: &[u8],
-    header: &PlanHeader,
-    number: usize,
-    at: usize,
-) -> Result<usize, RecordFault>
-    ensures { answer_of (λ n. n) record_refusal result ≡ checked file.now (fields_of header.now file.now (sort_of header.now number) number at) (size_of header.now file.now (sort_of header.now number) at) }
-{
-    match sort_of(header, number) {
-        Sort::Name => name_size(file, header.points, number, at),
-        Sort::Test => test_size(file, header, number, at),
-        Sort::Limit => limit_size(file, header, at),
-        Sort::End => {
-            check_end(file, at)?;
-            Ok(0)
+    // How many bytes it takes, where it keeps its rules.
+    pub(crate) fn size(&self) -> Result<usize, RecordFault>
+        ensures { answer_of (λ n. n) record_refusal result ≡ checked self.now.file.now (fields_of self.now.header self.now.file.now (sort_of self.now.header self.now.taken) self.now.taken self.now.place) (size_of self.now.header self.now.file.now (sort_of self.now.header self.now.taken) self.now.place) }
+    {
+        match self.sort() {
+            Some(Sort::Name) => self.name_size(),
+            Some(Sort::Test) => self.test_size(),
+            Some(Sort::Limit) => self.limit_size(),
+            None => {
+                check_end(self.file, self.place)?;
+                Ok(0)
+            }
         }
     }
-}
 
-// The name of one of so many points.
-fn name_size(file: &[u8], points: u8, number: usize, at: usize) -> Result<usize, RecordFault>
-    requires { number < points }
-    ensures { answer_of (λ n. n) record_refusal result ≡ checked file.now (name_fields file.now first_place number at) (name_size file.now at) }
-{
-    name_size_at(file, 17, number as u8, at)
-}
+    fn name_size(&self) -> Result<usize, RecordFault>
+        requires { self.now.taken < self.now.header.points }
+        ensures { answer_of (λ n. n) record_refusal result ≡ checked self.now.file.now (name_fields self.now.file.now first_place self.now.taken self.now.place) (name_size self.now.file.now self.now.place) }
+    {
+        let name = NameAt {
+            bytes: self.file,
+            start: 17,
+            number: self.taken as u8,
+            at: self.place,
+        };
+        name.size()
+    }
 
-fn test_size(
-    file: &[u8],
-    header: &PlanHeader,
-    number: usize,
-    at: usize,
-) -> Result<usize, RecordFault>
-    ensures { answer_of (λ n. n) record_refusal result ≡ checked file.now (fields_of header.now file.now a_test number at) 1 }
-{
-    if at >= file.len() {
-        return Err(RecordFault::Ended(file.len()));
+    fn test_size(&self) -> Result<usize, RecordFault>
+        ensures { answer_of (λ n. n) record_refusal result ≡ checked self.now.file.now (fields_of self.now.header self.now.file.now a_test self.now.taken self.now.place) 1 }
+    {
+        if self.place >= self.file.len() {
+            return Err(RecordFault::Ended(self.file.len()));
+        }
+        let i = self.taken.saturating_sub(usize::from(self.header.points));
+        let tests = rest_from(self.file, self.place.saturating_sub(i));
+        if !is_test(self.header.points, tests, i) {
+            return Err(RecordFault::Test(self.place));
+        }
+        Ok(1)
     }
-    let i = number.saturating_sub(usize::from(header.points));
-    let first = at.saturating_sub(i);
-    if !is_test(header.points, &file[first..], i) {
-        return Err(RecordFault::Test(at));
-    }
-    Ok(1)
-}
 
-fn limit_size(file: &[u8], header: &PlanHeader, at: usize) -> Result<usize, RecordFault>
-    ensures { answer_of (λ n. n) record_refusal result ≡ checked file.now (fields_of header.now file.now a_limit 0 at) (size_of header.now file.now a_limit at) }
-{
-    check_fitting(file, header, at)?;
-    check_bound(file, header, at + 4)?;
-    Ok(4 + header.version.width())
-}
+    fn limit_size(&self) -> Result<usize, RecordFault>
+        ensures { answer_of (λ n. n) record_refusal result ≡ checked self.now.file.now (fields_of self.now.header self.now.file.now a_limit 0 self.now.place) (size_of self.now.header self.now.file.now a_limit self.now.place) }
+    {
+        self.check_fitting()?;
+        check_bound(self.file, &self.header, self.place + 4)?;
+        Ok(4 + self.header.version.width())
+    }
 
-// Whether the points and letters of the limit at a place are those of the plan.
-fn check_fitting(file: &[u8], header: &PlanHeader, at: usize) -> Result<(), RecordFault>
-    ensures { answer_of (λ u. u) record_refusal result ≡ passing file.now (fitting_field header.now file.now at ∷ []) }
-{
-    if at > file.len() || file.len() - at < 4 {
-        return Err(RecordFault::Ended(file.len()));
+    // Whether the points and letters of the limit are those of the plan.
+    fn check_fitting(&self) -> Result<(), RecordFault>
+        ensures { answer_of (λ u. u) record_refusal result ≡ passing self.now.file.now (fitting_field self.now.header self.now.file.now self.now.place ∷ []) }
+    {
+        let [from, to, wanted, unwanted, ..] = *rest_from(self.file, self.place) else {
+            return Err(RecordFault::Ended(self.file.len()));
+        };
+        let limit = Limit {
+            from,
+            to,
+            wanted,
+            unwanted,
+            bound: (),
+        };
+        if !is_fitting(self.header.points, self.header.tests, limit) {
+            return Err(RecordFault::Limit(self.place));
+        }
+        Ok(())
     }
-    let limit = Limit {
-        from: file[at],
-        to: file[at + 1],
-        wanted: file[at + 2],
-        unwanted: file[at + 3],
-        bound: (),
-    };
-    if !is_fitting(header.points, header.tests, limit) {
-        return Err(RecordFault::Limit(at));
-    }
-    Ok(())
 }

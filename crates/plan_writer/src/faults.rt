@@ -1,7 +1,7 @@
 // Why a plan is not written.
 ghost use Rattle.std.specs.Prelude.{◌≡◌};
 ghost use Rattle.plan_writer.specs.Faults.{write_fault};
-ghost use Rattle.plan_writer.specs.declared.faults.PlanWriteFault.TheVariants.{InMemory, InNames};
+ghost use Rattle.plan_writer.specs.declared.faults.PlanWriteFault.TheVariants.{InMemory, InNames, NoRoom};
 
 use plan_records::RecordFault;
 use plans::MemoryFault;
@@ -46,7 +46,7 @@ impl From<RecordFault> for PlanWriteFault {
 }
 
 impl From<NoRoom> for PlanWriteFault {
-    ghost from_gives = { λ f r. r ≡ PlanWriteFault.NoRoom f };
+    ghost from_gives = { λ f r. r ≡ NoRoom f };
 
     fn from(fault: NoRoom) -> PlanWriteFault {
         PlanWriteFault::NoRoom(fault)

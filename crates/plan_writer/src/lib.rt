@@ -4,6 +4,7 @@
 
 mod faults;
 mod putting;
+mod sources;
 mod writing;
 
 pub use faults::PlanWriteFault;

@@ -1,46 +1,61 @@
 // The parts of a plan file, each put at its place.
-ghost use Rattle.std.specs.Prelude.{◌≡◌, ◌+◌, ◌*◌, ◌≤◌, [], map, length};
+ghost use Rattle.std.specs.Prelude.{◌≡◌, ◌+◌, ◌*◌, ◌≤◌, ◌++◌, map, length, drop};
 ghost use Rattle.std.proofs.Math.Seq.{paste};
 ghost use Rattle.std.specs.List.{flat_map, AllByRecursion};
-ghost use Rattle.times.specs.Coding.{time_bytes, width_of, word_bytes};
+ghost use Rattle.times.specs.Coding.{width_of, word_bytes};
 ghost use Rattle.time_fields.specs.Kinds.{OfKind};
-ghost use Rattle.heads.specs.Heads.{tests_of};
 ghost use Rattle.plans.specs.Views.{limit_of};
-ghost use Rattle.plan_contents.specs.Contents.{count_bytes, header_bytes, limit_bytes};
-ghost use Rattle.plan_writer.specs.Lent.{contents_of};
+ghost use Rattle.plan_contents.specs.Contents.{count_bytes, header_bytes, limit_bytes, plan_bytes, plan_length};
+ghost use Rattle.plan_writer.specs.Lent.{contents_in};
 
-use heads::Head;
+use crate::sources::Source;
 use plans::Limit;
 use times::Time;
 
-// Mark, version of the kind, numbers of points, tests and limits, r and d.
-pub(crate) fn put_header<T: Time>(head: &Head, limits: &[Limit<T>], file: &mut [u8])
-    requires { (length limits.now ≤ 256) × (17 ≤ length file.old) }
-    ensures { file.new ≡ paste file.old 0 (header_bytes T.Time.kind (contents_of T.Time.moment head.now limits.now [])) 17 }
-{
-    put_counts(head, limits, file);
-    put_word(head.round(), 9, file);
-    put_word(head.delay(), 13, file);
-}
+impl<T: Time> Source<'_, T> {
+    // The header, the names as they are, the tests and the limits.
+    pub(crate) fn put(&self, file: &mut [u8])
+        requires { plan_length T.Time.kind (contents_in T.Time.moment self.now) ≤ length file.old }
+        ensures bytes { file.new ≡ plan_bytes T.Time.kind (contents_in T.Time.moment self.now) ++ drop (plan_length T.Time.kind (contents_in T.Time.moment self.now)) file.old }
+        ensures coded { AllByRecursion (λ l. OfKind T.Time.kind l.bound) (contents_in T.Time.moment self.now).limits }
+    {
+        self.put_header(file);
+        let names_end = 17 + self.names.len();
+        file[17..names_end].copy_from_slice(self.names);
+        let tests_end = names_end + usize::from(self.head.letters());
+        file[names_end..tests_end].copy_from_slice(self.head.tests());
+        put_limits(self.limits, tests_end, file);
+    }
 
-fn put_counts<T: Time>(head: &Head, limits: &[Limit<T>], file: &mut [u8])
-    requires { (length limits.now ≤ 256) × (9 ≤ length file.old) }
-    ensures { file.new ≡ paste file.old 0 (count_bytes T.Time.kind (contents_of T.Time.moment head.now limits.now [])) 9 }
-{
-    let [high, low] = T::version().to_be_bytes();
-    let [many, few] = (limits.len() as u16).to_be_bytes();
-    let counts = [
-        0x44,
-        0x50,
-        0x4E,
-        high,
-        low,
-        head.points(),
-        head.letters(),
-        many,
-        few,
-    ];
-    file[0..9].copy_from_slice(&counts);
+    // Mark, version of the kind, numbers of points, tests and limits, r and d.
+    fn put_header(&self, file: &mut [u8])
+        requires { 17 ≤ length file.old }
+        ensures { file.new ≡ paste file.old 0 (header_bytes T.Time.kind (contents_in T.Time.moment self.now)) 17 }
+    {
+        self.put_counts(file);
+        put_word(self.head.round(), 9, file);
+        put_word(self.head.delay(), 13, file);
+    }
+
+    fn put_counts(&self, file: &mut [u8])
+        requires { 9 ≤ length file.old }
+        ensures { file.new ≡ paste file.old 0 (count_bytes T.Time.kind (contents_in T.Time.moment self.now)) 9 }
+    {
+        let [high, low] = T::version().to_be_bytes();
+        let [many, few] = (self.limits.len() as u16).to_be_bytes();
+        let counts = [
+            0x44,
+            0x50,
+            0x4E,
+            high,
+            low,
+            self.head.points(),
+            self.head.letters(),
+            many,
+            few,
+        ];
+        file[0..9].copy_from_slice(&counts);
+    }
 }
 
 fn put_word(word: u32, place: usize, file: &mut [u8])
@@ -51,26 +66,14 @@ fn put_word(word: u32, place: usize, file: &mut [u8])
     file[place..end].copy_from_slice(&word.to_be_bytes());
 }
 
-// The points of the tests, from a place on.
-pub(crate) fn put_tests(head: &Head, place: usize, file: &mut [u8])
-    requires { place + head.now.letters ≤ length file.old }
-    ensures { file.new ≡ paste file.old place (tests_of head.now) head.now.letters }
-{
-    for letter in 0..head.letters() {
-        file[place + usize::from(letter)] = head.point(letter);
-    }
-}
-
 // The limits, one after the other, from a place on.
-pub(crate) fn put_limits<T: Time>(limits: &[Limit<T>], place: usize, file: &mut [u8])
+fn put_limits<T: Time>(limits: &[Limit<T>], place: usize, file: &mut [u8])
     requires { place + (4 + width_of T.Time.kind) * length limits.now ≤ length file.old }
     ensures bytes { file.new ≡ paste file.old place (flat_map (limit_bytes T.Time.kind) (map (limit_of T.Time.moment) limits.now)) ((4 + width_of T.Time.kind) * length limits.now) }
     ensures coded { AllByRecursion (λ l. OfKind T.Time.kind l.bound) (map (limit_of T.Time.moment) limits.now) }
 {
-    let mut at = place;
-    for j in 0..limits.len() {
-        put_limit(limits[j], at, file);
-        at += 4 + T::width();
+    for (j, limit) in limits.iter().enumerate() {
+        put_limit(*limit, place + (4 + T::width()) * j, file);
     }
 }
 
@@ -80,18 +83,7 @@ fn put_limit<T: Time>(limit: Limit<T>, place: usize, file: &mut [u8])
     ensures coded { OfKind T.Time.kind (T.Time.moment limit.bound) }
 {
     let parts = [limit.from, limit.to, limit.wanted, limit.unwanted];
-    let end = place + 4;
-    file[place..end].copy_from_slice(&parts);
-    put_time(limit.bound, end, file);
-}
-
-fn put_time<T: Time>(time: T, place: usize, file: &mut [u8])
-    requires { place + width_of T.Time.kind ≤ length file.old }
-    ensures bytes { file.new ≡ paste file.old place (time_bytes T.Time.kind (T.Time.moment time)) (width_of T.Time.kind) }
-    ensures coded { OfKind T.Time.kind (T.Time.moment time) }
-{
-    let coded = time.encode();
-    let bytes = coded.as_slice();
-    let end = place + bytes.len();
-    file[place..end].copy_from_slice(bytes);
+    let bound = place + 4;
+    file[place..bound].copy_from_slice(&parts);
+    file[bound..bound + T::width()].copy_from_slice(limit.bound.encode().as_slice());
 }

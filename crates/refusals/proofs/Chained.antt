@@ -1,8 +1,8 @@
--- What `find_map`, `find` and `try_for_each` over the numbers below n answer, and `position` over a slice: the first of a search by number.
+-- What `find_map`, `find`, `all` and `try_for_each` over the numbers below n answer, and `position` over a slice: the first of a search by number.
 use Rattle.std.proofs.Common.{◌≡◌, ℕ, ◌+◌, ◌<◌, List, [], ◌∷◌, length, slice_index_or, Bool, true, false, IsTrue, Some, None, Option, MatchOption, IfSome, IsSomeAnd, Ok, Err, Result, sym, refl, ap, ◌∙◌, subst, arith, ◌⊎◌, inl, inr, MatchBool, IsErr}
 use Rattle.std.specs.Option.{option_map}
 use Rattle.std.specs.Result.{result_from_control_flow, IsErrAnd}
-use Rattle.std.specs.Iterator.Runs.{Run, SomeRun, AllItemsGive, IsFirstToGive, IsTryForEachRun, NoItemPasses, EndsAtFirstPassing, CallKeepsClosure, ItemsCountUp, ItemsMapTo}
+use Rattle.std.specs.Iterator.Runs.{Run, SomeRun, AllItemsGive, AnyItemGives, IsFirstToGive, IsTryForEachRun, NoItemPasses, EndsAtFirstPassing, CallKeepsClosure, ItemsCountUp, ItemsMapTo}
 use Rattle.std.specs.declared.ops.Range.{Range}
 use Rattle.std.specs.Fn.{CalledAt}
 use Rattle.std.proofs.iter.Yields.{nat_range_steps}
@@ -11,8 +11,8 @@ use denote.Param.Members.{Mut, Called}
 use denote.Ref.{Bor}
 use Rattle.refusals.specs.Answers.{answer_of, unless, given, refused}
 use Rattle.refusals.specs.declared.Refusal.{Refusal}
-use Rattle.refusals.specs.Searches.{first, when}
-use Rattle.refusals.proofs.Firsts.{none_first, first_found, some_none, none_when}
+use Rattle.refusals.specs.Searches.{first, when, every}
+use Rattle.refusals.proofs.Firsts.{none_first, first_found, true_every, every_fails, some_none, none_when}
 
 unless_given : (o : Option Refusal) → given tt ≡ unless {X = Unit {0}} o tt → o ≡ None
 unless_given None h = refl
@@ -42,40 +42,40 @@ module _ (n : ℕ) (p : Run nat_range_steps) (from : p.from ≡ record { start =
 
 module _ {F B X : Type 0} (g : Mut F (ℕ × Unit {0}) (Option B)) (f : F) (keeps : CallKeepsClosure g f) (v : B → X) (ask : ℕ → Option X) (n : ℕ) where
   -- `find_map` gives the first answer
-  pub first_mapped : ((i : ℕ) (a : Option B) (q : F) → i < n → Called g f (i, tt) a q → option_map v a ≡ ask i) → (r : Option B)
-      → SomeRun nat_range_steps (record { start = 0; end = n }) (λ p. MatchOption r (IsTrue p.whole × AllItemsGive p g f None) (λ y. (i : ℕ) × (i < p.len) × (p.len ≡ i + 1) × IsFirstToGive p g f (Some y) None i))
+  pub first_mapped : {s : Range ℕ} → ((i : ℕ) (a : Option B) (q : F) → i < n → Called g f (i, tt) a q → option_map v a ≡ ask i) → (r : Option B)
+      → s ≡ record { start = 0; end = n } → SomeRun nat_range_steps s (λ p. MatchOption r (IsTrue p.whole × AllItemsGive p g f None) (λ y. (i : ℕ) × (i < p.len) × (p.len ≡ i + 1) × IsFirstToGive p g f (Some y) None i))
       → option_map v r ≡ first n ask
-  first_mapped answers None run =
+  first_mapped answers None e run =
       let p = run.0 in
-      let given = λ (i : ℕ) (h : i < n). all_of n p run.1 (λ x. Called g f (x, tt) None f) run.2.0 (run.2.1 keeps) i h in
+      let given = λ (i : ℕ) (h : i < n). all_of n p (run.1 ∙ e) (λ x. Called g f (x, tt) None f) run.2.0 (run.2.1 keeps) i h in
       sym (none_first n ask (λ i h. sym (answers i None f h (given i h))))
-  first_mapped answers (Some y) run =
+  first_mapped answers (Some y) e run =
       let p = run.0 in
       let i = run.2.0 in
-      let few = (counts n p run.1).0 in
+      let few = (counts n p (run.1 ∙ e)).0 in
       let both = run.2.3 keeps in
-      let hit = some_and (p.at i) i (λ x. Called g f (x, tt) (Some y) f) (item n p run.1 i run.2.1) both.0 in
-      let before : (k : ℕ) → k < i → ask k ≡ None = λ k h. sym (answers k None f (omega (arith, run.2.1, few)) (some_and (p.at k) k (λ x. Called g f (x, tt) None f) (item n p run.1 k (omega (arith, run.2.1))) (both.1 k h))) in
+      let hit = some_and (p.at i) i (λ x. Called g f (x, tt) (Some y) f) (item n p (run.1 ∙ e) i run.2.1) both.0 in
+      let before : (k : ℕ) → k < i → ask k ≡ None = λ k h. sym (answers k None f (omega (arith, run.2.1, few)) (some_and (p.at k) k (λ x. Called g f (x, tt) None f) (item n p (run.1 ∙ e) k (omega (arith, run.2.1))) (both.1 k h))) in
       sym (first_found ask n i (v y) (omega (arith, run.2.1, few)) (none_first i ask before) (sym (answers i (Some y) f (omega (arith, run.2.1, few)) hit)))
 
 module _ {F X : Type 0} (g : Mut F (Bor ℕ × Unit {0}) Bool) (f : F) (keeps : CallKeepsClosure g f) (test : ℕ → Bool) (v : ℕ → X) (n : ℕ) where
   -- `find` gives the first number that passes
-  pub first_passing : ((i : ℕ) (a : Bool) → i < n → CalledAt g f i a f → a ≡ test i) → (r : Option ℕ)
-      → SomeRun nat_range_steps (record { start = 0; end = n }) (λ u. MatchOption r (IsTrue u.whole × NoItemPasses u g f) (EndsAtFirstPassing u g f))
+  pub first_passing : {s : Range ℕ} → ((i : ℕ) (a : Bool) → i < n → CalledAt g f i a f → a ≡ test i) → (r : Option ℕ)
+      → s ≡ record { start = 0; end = n } → SomeRun nat_range_steps s (λ u. MatchOption r (IsTrue u.whole × NoItemPasses u g f) (EndsAtFirstPassing u g f))
       → option_map v r ≡ first n (λ i. when (test i) (v i))
-  first_passing answers None run =
+  first_passing answers None e run =
       let p = run.0 in
-      let given = λ (i : ℕ) (h : i < n). all_of n p run.1 (λ x. CalledAt g f x false f) run.2.0 (run.2.1 keeps) i h in
+      let given = λ (i : ℕ) (h : i < n). all_of n p (run.1 ∙ e) (λ x. CalledAt g f x false f) run.2.0 (run.2.1 keeps) i h in
       sym (none_first n (λ i. when (test i) (v i)) (λ i h. none_when (test i) (v i) (sym (answers i false h (given i h)))))
-  first_passing answers (Some x) run =
+  first_passing answers (Some x) e run =
       let p = run.0 in
       let i = run.2.0 in
       let long : p.len ≡ i + 1 = run.2.1 in
-      let few = (counts n p run.1).0 in
+      let few = (counts n p (run.1 ∙ e)).0 in
       let both = run.2.3 keeps in
-      let is : x ≡ i = let e = ap (option_map (λ y. y)) run.2.2 in let h = item n p run.1 i (omega arith) in let q : Some x ≡ Some i = sym e ∙ h in cc in
+      let is : x ≡ i = let there = ap (option_map (λ y. y)) run.2.2 in let h = item n p (run.1 ∙ e) i (omega arith) in let q : Some x ≡ Some i = sym there ∙ h in cc in
       let passes : test i ≡ true = sym (answers i true (omega (arith, few)) (subst (λ y. CalledAt g f y true f) is both.0)) in
-      let before : (k : ℕ) → k < i → when (test k) (v k) ≡ None = λ k h. none_when (test k) (v k) (sym (answers k false (omega (arith, few)) (some_and (p.at k) k (λ y. CalledAt g f y false f) (item n p run.1 k (omega arith)) (both.1 k h)))) in
+      let before : (k : ℕ) → k < i → when (test k) (v k) ≡ None = λ k h. none_when (test k) (v k) (sym (answers k false (omega (arith, few)) (some_and (p.at k) k (λ y. CalledAt g f y false f) (item n p (run.1 ∙ e) k (omega arith)) (both.1 k h)))) in
       sym (first_found (λ j. when (test j) (v j)) n i (v x) (omega (arith, few)) (none_first i (λ j. when (test j) (v j)) before) (ap (λ b. when b (v i)) passes ∙ ap (λ j. Some (v j)) (sym is)))
 
 decided : (b : Bool) (P Q : Type 0) → MatchBool b P Q → ((b ≡ true) × P) ⊎ Q
@@ -97,20 +97,40 @@ module _ {F E : Type 0} (g : Mut F (ℕ × Unit {0}) (Result (Unit {0}) E)) (f :
   stops i e asked c = unless_refused (ask i) (numbering e) (rw c.2 at (asked c.0 c.1))
 
   -- `try_for_each` goes by all, or stops at the first refusal
-  pub each_passes : ((i : ℕ) (a : Result (Unit {0}) E) → i < n → Called g f (i, tt) a f → Asked a i) → (r : Result (Unit {0}) E)
-      → SomeRun nat_range_steps (record { start = 0; end = n }) (λ p. IsTryForEachRun p g f (λ s c. s ≡ result_from_control_flow c) (λ e s. IsErr s × IsErrAnd s (λ y. y ≡ e.0)) r)
+  pub each_passes : {s : Range ℕ} → ((i : ℕ) (a : Result (Unit {0}) E) → i < n → Called g f (i, tt) a f → Asked a i) → (r : Result (Unit {0}) E)
+      → s ≡ record { start = 0; end = n } → SomeRun nat_range_steps s (λ p. IsTryForEachRun p g f (λ s c. s ≡ result_from_control_flow c) (λ e s. IsErr s × IsErrAnd s (λ y. y ≡ e.0)) r)
       → answer_of (λ u. u) numbering r ≡ unless (first n ask) tt
-  each_passes asked r run = elim (decided run.0.whole _ _ run.2) [
-    | inl h ↦ let none = none_first n ask (λ i l. goes i (λ a c. asked i a l c) (all_of n run.0 run.1 (λ x. (v : Result (Unit {0}) E) × Called g f (x, tt) v f × (v ≡ Ok tt)) h.0 (h.1.1 keeps) i l)) in rw (h.1.0, none) refl
+  each_passes asked r e run = elim (decided run.0.whole _ _ run.2) [
+    | inl h ↦ let none = none_first n ask (λ i l. goes i (λ a c. asked i a l c) (all_of n run.0 (run.1 ∙ e) (λ x. (v : Result (Unit {0}) E) × Called g f (x, tt) v f × (v ≡ Ok tt)) h.0 (h.1.1 keeps) i l)) in rw (h.1.0, none) refl
     | inr h ↦
         let i = h.1 in
-        let few = (counts n run.0 run.1).0 in
+        let few = (counts n run.0 (run.1 ∙ e)).0 in
         let both = h.4 keeps in
-        let here = some_and (run.0.at i) i (λ x. (v : Result (Unit {0}) E) × Called g f (x, tt) v f × (v ≡ Err h.0.0)) (item n run.0 run.1 i (omega (arith, h.3))) both.0 in
-        let before : (k : ℕ) → k < i → ask k ≡ None = λ k l. goes k (λ a c. asked k a (omega (arith, h.3, few)) c) (some_and (run.0.at k) k (λ x. (v : Result (Unit {0}) E) × Called g f (x, tt) v f × (v ≡ Ok tt)) (item n run.0 run.1 k (omega (arith, h.3))) (both.1 k l)) in
+        let here = some_and (run.0.at i) i (λ x. (v : Result (Unit {0}) E) × Called g f (x, tt) v f × (v ≡ Err h.0.0)) (item n run.0 (run.1 ∙ e) i (omega (arith, h.3))) both.0 in
+        let before : (k : ℕ) → k < i → ask k ≡ None = λ k l. goes k (λ a c. asked k a (omega (arith, h.3, few)) c) (some_and (run.0.at k) k (λ x. (v : Result (Unit {0}) E) × Called g f (x, tt) v f × (v ≡ Ok tt)) (item n run.0 (run.1 ∙ e) k (omega (arith, h.3))) (both.1 k l)) in
         let found = first_found ask n i (numbering h.0.0) (omega (arith, h.3, few)) (none_first i ask before) (stops i h.0.0 (λ a c. asked i a (omega (arith, h.3, few)) c) here) in
         refused_by numbering r h.0.0 h.2 ∙ ap (λ o. unless o tt) (sym found)
   ]
+
+module _ {F : Type 0} (g : Mut F (ℕ × Unit {0}) Bool) (f : F) (keeps : CallKeepsClosure g f) (test : ℕ → Bool) (n : ℕ) where
+  -- `all` says whether every number passes
+  pub all_passing : {s : Range ℕ} → ((i : ℕ) (a : Bool) → i < n → Called g f (i, tt) a f → a ≡ test i) → (r : Bool)
+      → s ≡ record { start = 0; end = n } → SomeRun nat_range_steps s (λ p. MatchBool r (IsTrue p.whole × AllItemsGive p g f true) (AnyItemGives p g f false))
+      → r ≡ every n test
+  all_passing answers true e run =
+      sym (true_every n test (λ i h. sym (answers i true h (all_of n run.0 (run.1 ∙ e) (λ x. Called g f (x, tt) true f) run.2.0 (run.2.1 keeps) i h))))
+  all_passing answers false e run =
+      let p = run.0 in
+      let one = run.2 keeps in
+      let below : one.0 < n = omega (arith, (counts n p (run.1 ∙ e)).0, one.1) in
+      sym (every_fails test n one.0 below (sym (answers one.0 false below (some_and (p.at one.0) one.0 (λ x. Called g f (x, tt) false f) (item n p (run.1 ∙ e) one.0 one.1) one.2))))
+
+module _ {X Y : Type 0} (v : X → Y) where
+  -- what is made of the answer to a search stands for what is found
+  pub made_answer : {A : Type 0} {P : A → X → Type 0} (w : A → Y) (o : Option A) (r : Option X) → MatchOption o (r ≡ None) (λ x. IsSomeAnd r (P x)) → ((x : A) (y : X) → P x y → v y ≡ w x) → option_map v r ≡ option_map w o
+  made_answer w None r h makes = ap (option_map v) h
+  made_answer w (Some x) None h makes = absurd h
+  made_answer w (Some x) (Some y) h makes = ap Some (makes x y h)
 
 -- the element at a place
 there : {A : Type 0} (xs : List A) (i : ℕ) → i < length xs → A

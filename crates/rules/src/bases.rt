@@ -10,6 +10,7 @@ use crate::in_rounds::Rounds;
 use crate::meanings::Rule;
 use times::Time;
 
+// An enum, since a rule behind a pointer would need a heap.
 #[derive(Clone, Copy)]
 pub enum BaseRule {
     Prompt(Prompt),

@@ -25,9 +25,8 @@ impl<R: Rule> Rule for Delay<R> {
         let Some(ticks) = Ticks::new(self.ticks) else {
             unreachable()
         };
-        match taken.add_ticks(ticks) {
-            Some(later) => self.below.is_seen(test, later, at),
-            None => false,
-        }
+        taken
+            .add_ticks(ticks)
+            .is_some_and(|later| self.below.is_seen(test, later, at))
     }
 }

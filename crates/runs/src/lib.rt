@@ -30,6 +30,7 @@ pub struct Run {
 }
 
 // The right to tell a run the outcome of one test, once. It has to be spent: told or voided.
+// A flag and a condition on the drop, by a rule of the project: letting one go is refused by the prover.
 pub struct Token {
     run: u32,
     letter: u8,

@@ -33,13 +33,14 @@ fn start<T: Time, R: Rule>(number: u32, pair: &Pair<T>, _rule: &R) -> Run
     ensures value { result ≡ opened (plan_in T.Time.moment pair.now) number }
     ensures stands { StandsAlways (plan_in T.Time.moment pair.now) (table_in T.Time.moment pair.now) (R.Rule.sees _rule.now) number result }
 {
+    let none = Set::empty();
     Run {
         number,
         points: pair.head.points(),
         letters: pair.head.letters(),
-        released: Set::empty(),
-        out: Set::empty(),
-        told: Set::empty(),
-        outcomes: Set::empty(),
+        released: none,
+        out: none,
+        told: none,
+        outcomes: none,
     }
 }

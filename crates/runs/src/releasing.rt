@@ -38,9 +38,7 @@ impl Run {
         if self.points != pair.head.points() || self.letters != pair.head.letters() {
             return Err(ReleaseFault::OtherPlan);
         }
-        let Some(turn) = next_turn(self, pair) else {
-            return Err(ReleaseFault::NoneLeft);
-        };
+        let turn = next_turn(self, pair).ok_or(ReleaseFault::NoneLeft)?;
         match find_wait(self.out, self.told, pair, rule, turn.row, turn.point) {
             Some(letter) => Err(ReleaseFault::Waits(letter)),
             None => Ok(turn),

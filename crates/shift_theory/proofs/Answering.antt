@@ -3,7 +3,7 @@ use Rattle.std.proofs.Common.{◌≡◌, ℕ, zero, suc, ◌<◌, Bool, true, fa
 use lib.Signed.{le_z}
 use Rattle.std.proofs.lemmas.Int.{ints}
 use Rattle.std.proofs.lemmas.Bool.{and_parts, and_from, and_cases, leb-true, leb-false, le-leb, ltb-true, ltb-false, le-ltb, not-true, not-false, not_from_true}
-use Rattle.refusals.specs.Answers.{Answer, given, refused, unless}
+use Rattle.refusals.specs.Answers.{Answer, refused, unless}
 use Rattle.refusals.specs.declared.Refusal.{Refusal}
 use Rattle.times.specs.Moments.{Moment}
 use Rattle.heads.specs.Heads.{Outline}
@@ -20,10 +20,6 @@ use Rattle.shift_theory.specs.Shifts.{points_size, limits_size, times_size, shif
 pub stays_refused : {X Y : Type 0} (f : Option Refusal) (r : Refusal) (x : X) (y : Y) → refused r ≡ unless f x → refused r ≡ unless f y
 stays_refused None r x y e = let z : ◌≡◌ {A = ℕ} 0 1 = cc in absurd (omega arith)
 stays_refused (Some q) r x y e = let same : r ≡ q = cc in ap refused same
-
-pub none_refused : {X : Type 0} (f : Option Refusal) (x : X) → given x ≡ unless f x → f ≡ None
-none_refused None x e = refl
-none_refused (Some q) x e = let z : ◌≡◌ {A = ℕ} 0 1 = cc in absurd (omega arith)
 
 up_to : (z : ℤ) → le_z z (pos 1000000) ≡ true → z ≤ℤ pos 1000000
 up_to z e = grind (arith, ints)

@@ -1,6 +1,6 @@
 -- Moments some ticks later.
 use Rattle.std.proofs.Common.{◌≡◌, ℕ, ◌≤◌, true, false, ℤ, pos, ◌-ℤ◌, neg_ℤ, ◌≤ℤ◌, sym, ◌∙◌, arith}
-use lib.Signed.{lt_z, le_z}
+use lib.Signed.{lt_z}
 use Rattle.std.proofs.lemmas.Int.{ints}
 use Rattle.std.proofs.lemmas.Bool.{not-true}
 use Rattle.times.specs.Moments.{Moment, earlier, minus, whole, within, in_range, bound_rule, table_rule}
@@ -40,7 +40,3 @@ stays_in_range o d h k = grind (arith, ints)
 
 pub stays_in_table : (o : Moment) (d : ℕ) → table_rule o ≡ true → (later o d).ticks ≤ℤ pos 1000000 → table_rule (later o d) ≡ true
 stays_in_table o d h k = grind (arith, ints)
-
--- as a time of a table a later one can only have too many ticks
-pub late_ticks : (o : Moment) (d : ℕ) → table_rule o ≡ true → table_rule (later o d) ≡ le_z (later o d).ticks (pos 1000000)
-late_ticks o d h = grind (arith, ints)

@@ -1,5 +1,5 @@
 -- The head of a shifted plan.
-use Rattle.std.proofs.Common.{◌≡◌, ℕ, zero, suc, ◌+◌, ◌-◌, ◌<◌, ◌≤◌, List, [], ◌∷◌, map, take, refl, ap, ◌∙◌, add_assoc, arith}
+use Rattle.std.proofs.Common.{◌≡◌, ℕ, zero, suc, ◌+◌, ◌<◌, ◌≤◌, List, ◌∷◌, map, take, refl, ap, arith}
 use Rattle.std.specs.List.{range_with_len}
 use Rattle.std.proofs.lemmas.List.FromFn.{length-range_with_len, get_or-range_with_len}
 use Rattle.refusals.specs.declared.Refusal.{Refusal}
@@ -15,11 +15,6 @@ take_counting : (a n k : ℕ) → k ≤ n → take k (range_with_len a n) ≡ ra
 take_counting a n zero h = refl
 take_counting a zero (suc k) h = absurd (omega arith)
 take_counting a (suc n) (suc k) h = ap (λ xs. a ∷ xs) (take_counting (a + 1) n k (omega arith))
-
-six_tests : (n k : ℕ) → k ≤ 6 → take k (n ∷ (n + 1) ∷ (n + 2) ∷ (n + 3) ∷ (n + 4) ∷ (n + 5) ∷ []) ≡ range_with_len n k
-six_tests n k h =
-    let six : ◌≡◌ {A = List ℕ} (n ∷ (n + 1) ∷ (n + 2) ∷ (n + 3) ∷ (n + 4) ∷ (n + 5) ∷ []) (range_with_len n 6) = simp add_assoc in
-    ap (take k) six ∙ take_counting n 6 k h
 
 pub no_refusal : (o : Outline) (r : Refusal) → IsHead o → HeadRefused o r → ⊥
 no_refusal o r h (counts broken) = broken h.counts
@@ -39,11 +34,9 @@ module _ (p : Plan) (round : ℕ) (some : 1 ≤ p.points) (few : points_size p �
             record { started = omega arith; placed = omega arith; new = λ j before e. let there = get_or-range_with_len p.points (letters p) j 0 (omega arith) in omega arith };
       }
 
--- the tests from an array of six
-pub outline_is : (p : Plan) (w n k r round : ℕ) → w ≡ points_size p → n ≡ p.points → k ≡ letters p → r ≡ round → letters p ≤ 6 → outline w (take (k - 0) (n ∷ (n + 1) ∷ (n + 2) ∷ (n + 3) ∷ (n + 4) ∷ (n + 5) ∷ [])) r 0 ≡ shifted_outline p round
-outline_is p w n k r round a b c e h =
-    let count : k - 0 ≡ letters p = omega arith in
-    rw (a, b, count, e, six_tests p.points (letters p) h)
+-- the tests from an array that counts up
+pub outline_is : (p : Plan) (w k r round : ℕ) (tests : List ℕ) → w ≡ points_size p → tests ≡ range_with_len p.points 6 → k ≡ letters p → r ≡ round → letters p ≤ 6 → outline w (take k tests) r 0 ≡ shifted_outline p round
+outline_is p w k r round tests a b c e h = rw (a, b, c, e, take_counting p.points 6 (letters p) h)
 
 -- a head with that outline, and limits, are the shifted plan
 pub plan_is : {X : Type 0} (of : X → Moment) (h : Head) (ls : List (Limit X)) (p : Plan) (d round : ℕ) → outline_of h ≡ shifted_outline p round → map (limit_of of) ls ≡ shifted_limits p d → plan_of of h ls ≡ shifted_plan p d

@@ -1,0 +1,4 @@
+pub mod Checked
+pub mod Counting
+pub mod Filled
+pub mod Timed

@@ -1,23 +1,21 @@
 // Times a delay later.
-ghost use Rattle.std.specs.Prelude.{◌≡◌, ◌<◌, ◌≤◌, true};
+ghost use Rattle.std.specs.Prelude.{◌≡◌, ◌≤◌, true};
 ghost use Rattle.plans.specs.Lent.{plan_in, table_in};
-ghost use Rattle.plans.specs.Memory.{MemoryKept};
-ghost use Rattle.plans.specs.Plans.{letters, rows};
 ghost use Rattle.times.specs.Moments.{table_rule};
 ghost use Rattle.shift_theory.specs.Lent.{delay_in};
 ghost use Rattle.shift_theory.specs.Shifts.{later, new_moment};
 
-use plans::Pair;
+use crate::kept::KeptPair;
 use times::{Ticks, Time};
 
-// The time of the new test with a letter in a row.
-pub(crate) fn new_time<T: Time>(pair: &Pair<T>, row: u8, letter: u8) -> T
-    requires kept { MemoryKept (plan_in T.Time.moment pair.now) (table_in T.Time.moment pair.now) }
-    requires row { row < rows (plan_in T.Time.moment pair.now) }
-    requires letter { letter < letters (plan_in T.Time.moment pair.now) }
-    ensures { T.Time.moment result ≡ new_moment (plan_in T.Time.moment pair.now) (table_in T.Time.moment pair.now) (delay_in pair.now) row letter }
-{
-    delayed(pair.time(row, pair.head.point(letter)), pair.head.delay())
+impl<T: Time> KeptPair<'_, T> {
+    // The time of the new test with a letter in a row.
+    pub(crate) fn new_time(&self, row: u8, letter: u8) -> T
+        ensures { T.Time.moment result ≡ new_moment (plan_in T.Time.moment self.now.pair) (table_in T.Time.moment self.now.pair) (delay_in self.now.pair) row letter }
+    {
+        let head = self.pair.head;
+        delayed(self.pair.time(row, head.point(letter)), head.delay())
+    }
 }
 
 // A time of a table, so many ticks later.

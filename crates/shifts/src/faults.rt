@@ -4,17 +4,17 @@ ghost use Rattle.shifts.specs.Faults.{shift_fault};
 ghost use Rattle.shifts.specs.declared.faults.ShiftFault.TheVariants.{InMemory};
 
 use plans::MemoryFault;
-use refusals::Refusal;
+use refusals::{NoRoom, Refusal};
 
 #[derive(Clone, Copy, PartialEq, Eq, Debug)]
 pub enum ShiftFault {
     InMemory(MemoryFault),
     // too many points or limits, or a time that is too late
     TooLarge,
-    // the array for limits is shorter than this
-    ShortLimits(usize),
-    // the array for times is shorter than this
-    ShortTimes(usize),
+    // the array for limits
+    ShortLimits(NoRoom),
+    // the array for times
+    ShortTimes(NoRoom),
 }
 
 impl From<ShiftFault> for Refusal {
@@ -24,8 +24,8 @@ impl From<ShiftFault> for Refusal {
         match fault {
             ShiftFault::InMemory(fault) => Refusal::from(fault),
             ShiftFault::TooLarge => Refusal::at(18, 0),
-            ShiftFault::ShortLimits(size) => Refusal::at(11, size),
-            ShiftFault::ShortTimes(size) => Refusal::at(11, size),
+            ShiftFault::ShortLimits(fault) => Refusal::from(fault),
+            ShiftFault::ShortTimes(fault) => Refusal::from(fault),
         }
     }
 }

@@ -7,6 +7,7 @@ mod counts;
 mod delays;
 mod faults;
 mod filling;
+mod kept;
 mod shifting;
 
 pub use faults::ShiftFault;

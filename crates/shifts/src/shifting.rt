@@ -11,7 +11,6 @@ ghost use Rattle.shifts.specs.Faults.{shift_fault};
 
 use crate::checks::check_shift;
 use crate::faults::ShiftFault;
-use crate::filling::{fill_limits, fill_times, shifted_head};
 use heads::Head;
 use plans::{Limit, Pair};
 use times::Time;
@@ -30,8 +29,8 @@ pub fn shift<T: Time>(
     ensures meaning { Answered (plan_in T.Time.moment pair.now) (table_in T.Time.moment pair.now) (delay_in pair.now) (length limits.old) (length times.old) (round_in pair.now) (answer_of outline_of shift_fault result) }
     ensures promise { IfOk result (λ head. Shifted (plan_in T.Time.moment pair.now) (table_in T.Time.moment pair.now) (delay_in pair.now) (plan_of T.Time.moment head (take (limits_size (plan_in T.Time.moment pair.now)) limits.new)) (table_of T.Time.moment (take (times_size (plan_in T.Time.moment pair.now)) times.new))) }
 {
-    check_shift(pair, limits.len(), times.len())?;
-    fill_limits(pair, limits);
-    fill_times(pair, times);
-    Ok(shifted_head(pair))
+    let kept = check_shift(pair, limits.len(), times.len())?;
+    kept.fill_limits(limits);
+    kept.fill_times(times);
+    Ok(kept.shifted_head())
 }

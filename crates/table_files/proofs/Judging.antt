@@ -1,15 +1,14 @@
 -- What the answer of a table file says of its fields.
-use Rattle.std.proofs.Common.{◌≡◌, ℕ, ◌^◌, ◌<◌, ◌≤◌, Bool, true, false, ltb, List, [], ◌∷◌, length, sym, refl, ap, ◌∙◌, subst, inl, inr, mul-le-mul, arith}
+use Rattle.std.proofs.Common.{◌≡◌, ℕ, ◌^◌, ◌<◌, ◌≤◌, Bool, true, false, cond, ltb, List, [], ◌∷◌, length, sym, refl, ap, ◌∙◌, subst, inl, inr, mul-le-mul, arith}
 use lib.Pow.{pow-lt}
 use Rattle.std.proofs.lemmas.Bool.{leb-true, le-leb, lt-leb, ltb-true, ltb-false, lt-ltb, le-ltb}
-use Rattle.refusals.specs.Answers.{Answer, given, refused, and_then, unless, refusal_at}
+use Rattle.refusals.specs.Answers.{Answer, given, refused, and_then, refusal_at}
 use Rattle.refusals.specs.declared.Refusal.{Refusal}
 use Rattle.fields.specs.Fields.{Field, checked, AllKept, FirstRefused, JudgedFields}
 use Rattle.fields.proofs.Chains.{onward, checked_judged}
 use Rattle.times.specs.declared.codings.Kind.{Kind}
 use Rattle.times.specs.Coding.{time_at}
 use Rattle.times.specs.Moments.{Moment}
-use Rattle.refusals.specs.Searches.{when}
 use Rattle.heads.specs.declared.Head.{Head}
 use Rattle.table_files.specs.Layouts.{table_size, time_place, table_length, header_fields, time_fields, end_field, body_fields}
 use Rattle.table_files.specs.Readings.{times_in, counted, header_answer, body_answer, read_table, IsRead, ReadRefused, in_header, no_room, in_body, ReadSays, RefusesExactly}
@@ -38,7 +37,7 @@ size_small head =
 
 module _ (kind : Kind) (head : Head) (file : List ℕ) (room : ℕ) where
   abbrev room_by : Bool → Answer (Unit {0})
-  room_by short = unless (when short (refusal_at 11 (table_size head))) tt
+  room_by short = cond short (refused (refusal_at 11 (table_size head))) yes
 
   in_words : (h : Answer (Unit {0})) (short : Bool) (b : Answer (List Moment)) → JudgedFields file (header_fields kind head) h → ltb room (table_size head) ≡ short → b ≡ body_answer kind head file room → JudgedFields file (body_fields kind head file) b → ReadSays kind head file room (counted (and_then h (λ _. and_then (room_by short) (λ _. b))))
   in_words (refused r) short b j t e k = in_header r j

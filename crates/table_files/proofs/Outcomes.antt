@@ -1,6 +1,6 @@
 -- The answer of a writer, and what it leaves, from the checks that it makes.
-use Rattle.std.proofs.Common.{◌≡◌, ℕ, ◌*◌, ◌^◌, ◌<◌, ◌≤◌, ltb, List, length, Some, None, Option, sym, refl, ap, ◌∙◌, subst}
-use Rattle.std.proofs.lemmas.Bool.{ltb-true, ltb-false, lt-ltb, le-ltb}
+use Rattle.std.proofs.Common.{◌≡◌, ℕ, ◌*◌, ◌^◌, ◌<◌, ◌≤◌, Bool, true, false, cond, ltb, List, length, Some, None, Option, sym, refl, ap, ◌∙◌, subst}
+use Rattle.std.proofs.lemmas.Bool.{ltb-true, lt-ltb, le-ltb}
 use Rattle.refusals.specs.Answers.{Answer, given, refused, unless, refusal_at}
 use Rattle.refusals.specs.declared.Refusal.{Refusal}
 use Rattle.times.specs.declared.codings.Kind.{Kind}
@@ -13,7 +13,6 @@ use Rattle.refusals.specs.Rooms.{room_answer}
 use Rattle.table_files.specs.Writings.{bare, write_table, left_by, written, in_memory, no_room, WriteSays}
 use Rattle.table_files.proofs.Laid.{yes}
 use Rattle.table_files.proofs.Timed.{never}
-use Rattle.table_files.proofs.Stepping.{refused_when, given_when}
 
 unless_given : (o : Option Refusal) → yes ≡ unless o tt → o ≡ None
 unless_given None e = refl
@@ -23,8 +22,9 @@ unless_refused : (o : Option Refusal) (r : Refusal) → refused r ≡ unless o (
 unless_refused None r e = never r tt e
 unless_refused (Some q) r e = cc
 
-pub room_for : (out : List ℕ) (n : ℕ) → yes ≡ room_answer (length out) n → n ≤ length out
-room_for out n e = ltb-false (length out) n (given_when (ltb (length out) n) (refusal_at 11 n) e)
+refused_room : (b : Bool) (q r : Refusal) → refused r ≡ cond b (refused q) yes → (b ≡ true) × (r ≡ q)
+refused_room true q r e = (refl, cc)
+refused_room false q r e = never r tt e
 
 -- a table that keeps its rules has its size
 pub full_size : (head : Head) (ts : List Moment) → TimesKept (bare head) ts → length ts ≡ table_size head
@@ -47,7 +47,7 @@ module _ (kind : Kind) (head : Head) (ts : List Moment) (out : List ℕ) where
     pub room_stops : (n : ℕ) → n ≡ table_length kind head → (r : Refusal) → refused r ≡ room_answer (length out) n → Shown (refused r)
     room_stops n q r h =
         let none = unless_given (memory_refusal (bare head) ts) e in
-        let p = refused_when (ltb (length out) n) (refusal_at 11 n) r h in
+        let p = refused_room (ltb (length out) n) (refusal_at 11 n) r h in
         let named : refusal_at 11 (table_length kind head) ≡ r = ap (refusal_at 11) (sym q) ∙ sym p.1 in
         let l = subst (λ n. length out < n) q (ltb-true (length out) n p.0) in
         subst (λ r. Shown (refused r)) named (shown (refused (refusal_at 11 (table_length kind head))) (rw (none, lt-ltb (length out) (table_length kind head) l)) (no_room kept l))

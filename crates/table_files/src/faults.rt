@@ -2,7 +2,9 @@
 ghost use Rattle.std.specs.Prelude.{◌≡◌};
 ghost use Rattle.table_files.specs.Faults.{table_refusal, write_fault};
 ghost use Rattle.table_files.specs.declared.faults.TableFault.TheVariants.{InHeader, InTime};
+ghost use Rattle.table_files.specs.declared.faults.TableFault.TheVariants as read;
 ghost use Rattle.table_files.specs.declared.faults.WriteFault.TheVariants.{InMemory};
+ghost use Rattle.table_files.specs.declared.faults.WriteFault.TheVariants as write;
 
 use files::headers::HeaderFault;
 use plans::MemoryFault;
@@ -77,7 +79,7 @@ impl From<MemoryFault> for WriteFault {
 }
 
 impl From<NoRoom> for TableFault {
-    ghost from_gives = { λ f r. r ≡ TableFault.NoRoom f };
+    ghost from_gives = { λ f r. r ≡ read.NoRoom f };
 
     fn from(fault: NoRoom) -> TableFault {
         TableFault::NoRoom(fault)
@@ -85,7 +87,7 @@ impl From<NoRoom> for TableFault {
 }
 
 impl From<NoRoom> for WriteFault {
-    ghost from_gives = { λ f r. r ≡ WriteFault.NoRoom f };
+    ghost from_gives = { λ f r. r ≡ write.NoRoom f };
 
     fn from(fault: NoRoom) -> WriteFault {
         WriteFault::NoRoom(fault)

@@ -34,8 +34,6 @@ pub fn bytes_at<const N: usize>(file: &[u8], at: usize) -> Option<[u8; N]>
 pub fn signed_at(file: &[u8], at: usize) -> Result<i32, TimeFault>
     ensures { answer_of (λ z. z) time_refusal result ≡ signed_field file.now at }
 {
-    let Some(bytes) = bytes_at(file, at) else {
-        return Err(TimeFault::Ended(file.len()));
-    };
+    let bytes = bytes_at(file, at).ok_or(TimeFault::Ended(file.len()))?;
     Ok(i32::from_be_bytes(bytes))
 }

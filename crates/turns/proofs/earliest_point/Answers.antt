@@ -11,5 +11,5 @@ returns g c =
     let pair = c.args.pair.now in
     let test = leads (plan_in g.T.Time.moment pair) (table_in g.T.Time.moment pair) c.args.released c.args.row in
     sym (option_map_id c.find.result)
-    ∙ first_passing _ _ (search rules) test (λ i. i) c.points.result (λ i a h k. search rules) _ c.find.ensures.runs
+    ∙ first_passing _ _ (search rules) test (λ i. i) c.points.result (λ i a h k. search rules) _ (search rules) c.find.ensures.runs
     ∙ ap (λ n. first n (λ i. when (test i) i)) c.points.ensures

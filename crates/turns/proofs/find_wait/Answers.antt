@@ -14,5 +14,5 @@ returns g c =
     let p = plan_in g.T.Time.moment pair in
     let ts = table_in g.T.Time.moment pair in
     let test = waits_for p ts (g.R.Rule.sees c.args.rule.now) c.args.out c.args.told c.args.row (moment p ts c.args.row c.args.point) in
-    first_passing _ _ (search rules) test (refusal_at 16) c.letters.result (λ i a h k. search rules) _ c.find.ensures.runs
+    first_passing _ _ (search rules) test (refusal_at 16) c.letters.result (λ i a h k. search rules) _ (search rules) c.find.ensures.runs
     ∙ ap (λ n. first n (λ i. when (test i) (refusal_at 16 i))) (c.letters.ensures ∙ letters_of g.T.Time.moment pair.head.now pair.limits.now)

@@ -12,5 +12,5 @@ returns g c =
     let pair = c.args.pair.now in
     let test = agrees (plan_in g.T.Time.moment pair) c.args.told c.args.outcomes in
     sym (option_map_id c.find.result)
-    ∙ first_passing _ _ (search rules) test (λ i. i) c.rows.result (λ i a h k. search rules) _ c.find.ensures.runs
+    ∙ first_passing _ _ (search rules) test (λ i. i) c.rows.result (λ i a h k. search rules) _ (search rules) c.find.ensures.runs
     ∙ ap (λ n. first n (λ i. when (test i) i)) (c.rows.ensures ∙ rows_of g.T.Time.moment pair.head.now pair.limits.now)

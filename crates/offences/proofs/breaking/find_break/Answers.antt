@@ -12,4 +12,4 @@ returns g c =
     let pair = c.args.pair.now in
     let breaking = break_in (plan_in g.T.Time.moment pair) (table_in g.T.Time.moment pair) in
     let rows = c.rows.ensures ∙ rows_of g.T.Time.moment pair.head.now pair.limits.now in
-    first_mapped _ _ (search rules) offence_refusal breaking c.rows.result (λ i a q h k. search rules) _ c.find_map.ensures.runs ∙ ap (λ n. first n breaking) rows
+    first_mapped _ _ (search rules) offence_refusal breaking c.rows.result (λ i a q h k. search rules) _ (search rules) c.find_map.ensures.runs ∙ ap (λ n. first n breaking) rows

@@ -1,4 +1,4 @@
-use Rattle.std.proofs.Common.{ℕ, ◌+◌, ◌*◌, ◌<◌, map, length, take, drop, ap, ◌∙◌, arith}
+use Rattle.std.proofs.Common.{ℕ, ◌+◌, ◌*◌, ◌<◌, length, length-set, ap, ◌∙◌, arith}
 use Rattle.times.specs.Coding.{width_of}
 use Rattle.times.specs.Moments.{Moment}
 use Rattle.plans.specs.Views.{limit_of}
@@ -11,10 +11,8 @@ pub loop-j-preserved : goal.loop-j-preserved
 loop-j-preserved g c =
     let t = g.T.Time in
     let file = c.args.file.now in
-    let at = c.args.at in
     let j = c.loop-j.j in
-    let f : ℕ → Limit Moment = λ j. limit_in t.kind file (at + (4 + width_of t.kind) * j) in
-    let here = c.limit_at.ensures ∙ ap (λ w. limit_in t.kind file (at + (4 + w) * j)) c.width.ensures in
-    let inside : j < length c.loop-j.limits = omega (arith, c.loop-j.auto.limits, c.loop-j-test.true, c.requires.1.0) in
-    let more = store_more (limit_of t.moment) f c.args.count j c.loop-j.limits _ c.limit_at.result c.loop-j-test.true inside here c.loop-j.invariant.0 c.loop-j.invariant.1 in
-    (ap (λ l. map (limit_of t.moment) (take (j + 1) l)) c.store.ensures ∙ more.0, ap (drop c.args.count) c.store.ensures ∙ more.1)
+    let f : ℕ → Limit Moment = λ j. limit_in t.kind file (c.args.at + (4 + width_of t.kind) * j) in
+    let here = c.limit_at.ensures ∙ ap (λ w. limit_in t.kind file (c.args.at + (4 + w) * j)) c.width.ensures in
+    let inside : j < length c.loop-j.slot-items = omega (arith, c.loop-j.invariant.0, c.loop-j-test.true) in
+    (omega (arith, length-set c.loop-j.slot-items j c.limit_at.result, c.loop-j.invariant.0), store_more (limit_of t.moment) f j c.loop-j.slot-items c.limit_at.result inside here c.loop-j.invariant.1)

@@ -1,4 +1,4 @@
-use Rattle.std.proofs.Common.{◌≡◌, ◌+◌, ◌*◌, [], ◌∷◌, map, take, drop}
+use Rattle.std.proofs.Common.{◌≡◌, ◌+◌, ◌*◌, [], ◌∷◌, map, length, take}
 use Rattle.fields.specs.Laid.{laid}
 use Rattle.times.specs.Coding.{width_of}
 use Rattle.plans.specs.Views.{limit_of}
@@ -8,4 +8,4 @@ use Rattle.plan_reader.proofs.filling.fill_limits.Given as goal
 abbrev pub invariant-loop-j : goal.invariant-loop-j
 invariant-loop-j g l =
     let t = g.T.Time in
-    (map (limit_of t.moment) (take l.j l.limits) ≡ laid l.j (λ j. limit_in t.kind l.file (l.at + (4 + width_of t.kind) * j) ∷ [])) × (drop l.count l.limits ≡ drop l.count l.initial.limits)
+    (length l.slot-items ≡ l.j-end) × (map (limit_of t.moment) (take l.j l.slot-items) ≡ laid l.j (λ j. limit_in t.kind l.file (l.at + (4 + width_of t.kind) * j) ∷ []))

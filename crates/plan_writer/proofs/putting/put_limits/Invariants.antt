@@ -11,4 +11,4 @@ abbrev pub invariant-loop-j : goal.invariant-loop-j
 invariant-loop-j g l =
     let kind = g.T.Time.kind in
     let done = map (limit_of g.T.Time.moment) (take l.j l.limits) in
-    (l.at ≡ l.place + (4 + width_of kind) * l.j) × (l.file ≡ paste l.initial.file l.place (flat_map (limit_bytes kind) done) ((4 + width_of kind) * l.j)) × AllByRecursion (λ l. OfKind kind l.bound) done
+    (l.file ≡ paste l.initial.file l.place (flat_map (limit_bytes kind) done) ((4 + width_of kind) * l.j)) × AllByRecursion (λ l. OfKind kind l.bound) done

@@ -10,4 +10,4 @@ returns g c =
     let pair = c.args.pair.now in
     let p = plan_in g.T.Time.moment pair in
     let ts = table_in g.T.Time.moment pair in
-    rw c.points.ensures at (each_passes _ _ (search rules) memory_fault (time_refusal p ts c.args.row) c.points.result (λ i a h k. search rules) _ c.try_for_each.ensures.runs)
+    rw c.points.ensures at (each_passes _ _ (search rules) memory_fault (time_refusal p ts c.args.row) c.points.result (λ i a h k. search rules) _ (search rules) c.try_for_each.ensures.runs)

@@ -13,4 +13,4 @@ returns g c =
     let pair = c.args.pair.now in
     let refusing = row_refusal (plan_in g.T.Time.moment pair) (table_in g.T.Time.moment pair) in
     let rows = c.rows.ensures ∙ rows_of g.T.Time.moment pair.head.now pair.limits.now in
-    each_passes _ _ (search rules) memory_fault refusing c.rows.result (λ i a h k. search rules) _ c.try_for_each.ensures.runs ∙ ap (λ n. unless (first n refusing) tt) rows
+    each_passes _ _ (search rules) memory_fault refusing c.rows.result (λ i a h k. search rules) _ (search rules) c.try_for_each.ensures.runs ∙ ap (λ n. unless (first n refusing) tt) rows

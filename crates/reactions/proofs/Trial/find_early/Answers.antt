@@ -10,4 +10,4 @@ pub returns : goal.returns
 returns g c =
     let pair = c.args.self.now.pair.now in
     let rows = c.rows.ensures ∙ rows_of g.T.Time.moment pair.head.now pair.limits.now in
-    rw (← rows) (first_mapped _ _ (search rules) offence_refusal (early_in (plan_in g.T.Time.moment pair) (table_in g.T.Time.moment pair) (g.R.Rule.sees c.args.self.now.rule.now)) c.rows.result (λ i a q h k. search rules) _ c.find_map.ensures.runs)
+    rw (← rows) (first_mapped _ _ (search rules) offence_refusal (early_in (plan_in g.T.Time.moment pair) (table_in g.T.Time.moment pair) (g.R.Rule.sees c.args.self.now.rule.now)) c.rows.result (λ i a q h k. search rules) _ (search rules) c.find_map.ensures.runs)

@@ -31,7 +31,8 @@ returns g c =
       memory = accepted.memory;
       dynamic = accepted.dynamic;
     } in
-    let same = opened_is p c.args.number _ _ c.points.ensures (c.letters.ensures ∙ letters_of of head pair.limits.now) in record {
+    let same = opened_is p c.args.number _ _ c.points.ensures (c.letters.ensures ∙ letters_of of head pair.limits.now) in
+    rw c.empty-none.ensures (record {
       value = same;
       stands = subst (StandsAlways p ts m c.args.number) (sym same) (always sound c.args.number);
-    }
+    })
