@@ -8,7 +8,7 @@ use heads::Head;
 use plans::{Limit, Pair};
 use refusals::Refusal;
 use rules::{BaseRule, Delay};
-use std::alloc::{AllocError, Global};
+use std::fmt;
 use time_rules::whole_ticks;
 use times::Time;
 use verdicts::{PairFault, judge};
@@ -71,57 +71,36 @@ const EXAMPLES: [Example; 9] = [
     },
 ];
 
-fn say(rt: &HostRuntime, what: &str, answer: Result<(), PairFault>) -> anyhow::Result<()> {
-    match answer {
-        Ok(()) => println!(rt; "{what}: accepted")?,
-        Err(fault) => {
-            let Refusal {
-                number,
-                first,
-                second,
-                third,
-            } = Refusal::from(fault);
-            println!(rt; "{what}: {number} ({first}, {second}, {third})")?;
-        }
+// What a pair is judged to be.
+#[derive(Clone, Copy)]
+struct Verdict(Result<(), PairFault>);
+
+impl fmt::Display for Verdict {
+    fn fmt<W: fmt::Write>(&self, f: &mut fmt::Formatter<W>) -> fmt::Result {
+        let Err(fault) = self.0 else {
+            return write!(f, "accepted");
+        };
+        let refusal = Refusal::from(fault);
+        write!(
+            f,
+            "{} ({}, {}, {})",
+            refusal.number, refusal.first, refusal.second, refusal.third
+        )
     }
-    Ok(())
 }
 
 // Judges a pair under the rule that its head names.
-fn judge_pair<'a, T: Time>(
-    head: &'a Head,
-    limits: &'a [Limit<T>],
-    times: &'a [T],
-) -> Result<(), PairFault> {
-    let rule = head.rule();
-    judge(
-        &Pair {
-            head,
-            limits,
-            times,
-        },
-        &rule,
-    )
-}
-
-fn with_times<T: Time>(
-    heap: Global,
-    head: &Head,
-    limits: &[Limit<T>],
-    ticks: [i32; 6],
-) -> Result<Result<(), PairFault>, AllocError> {
-    let mut times = Vec::new(heap);
-    for t in ticks {
-        times.push(whole_ticks::<T>(t))?;
-    }
-    Ok(judge_pair(head, limits, times.as_slice()))
+fn judge_pair<'a, T: Time>(head: &'a Head, limits: &'a [Limit<T>], times: &'a [T]) -> Verdict {
+    let pair = Pair {
+        head,
+        limits,
+        times,
+    };
+    Verdict(judge(&pair, &head.rule()))
 }
 
 fn head_of(points: u8, tests: &[u8], round: u32, delay: u32) -> anyhow::Result<Head> {
-    match Head::new(points, tests, round, delay) {
-        Ok(head) => Ok(head),
-        Err(_) => Err(anyhow!("no such head")),
-    }
+    Head::new(points, tests, round, delay).map_err(|_| anyhow!("no such head"))
 }
 
 fn show(rt: &HostRuntime, example: Example) -> anyhow::Result<()> {
@@ -133,16 +112,11 @@ fn show(rt: &HostRuntime, example: Example) -> anyhow::Result<()> {
     let [a, b, c, d, e, f] = times;
     println!(rt; "r = {round}, d = {delay}, rows {a} {b} {c} / {d} {e} {f}")?;
     let head = head_of(3, &[1], round, delay)?;
-    say(
-        rt,
-        "  whole",
-        with_times::<Whole>(rt.alloc(), &head, &[], times)?,
-    )?;
-    say(
-        rt,
-        "  fine",
-        with_times::<Fine>(rt.alloc(), &head, &[], times)?,
-    )
+    let whole = times.map(whole_ticks::<Whole>);
+    let fine = times.map(whole_ticks::<Fine>);
+    println!(rt; "  whole: {}", judge_pair(&head, &[], &whole))?;
+    println!(rt; "  fine: {}", judge_pair(&head, &[], &fine))?;
+    Ok(())
 }
 
 // Point 1 to point 2 at most 3 where letter 0 is true.
@@ -160,61 +134,37 @@ fn show_limit(rt: &HostRuntime) -> anyhow::Result<()> {
     println!(rt; "limit from 1 to 2 of 3 where letter 0 is true, rows 0 2 5 / 0 2 7")?;
     let head = head_of(3, &[1], 0, 0)?;
     let times = [0, 2, 5, 0, 2, 7];
-    say(
-        rt,
-        "  whole",
-        with_times::<Whole>(rt.alloc(), &head, &[close()], times)?,
-    )?;
-    say(
-        rt,
-        "  fine",
-        with_times::<Fine>(rt.alloc(), &head, &[close()], times)?,
-    )
-}
-
-fn fine(ticks: i32, grains: i32) -> Fine {
-    Fine { ticks, grains }
+    let whole = times.map(whole_ticks::<Whole>);
+    let fine = times.map(whole_ticks::<Fine>);
+    println!(rt; "  whole: {}", judge_pair(&head, &[close()], &whole))?;
+    println!(rt; "  fine: {}", judge_pair(&head, &[close()], &fine))?;
+    Ok(())
 }
 
 fn show_grains(rt: &HostRuntime) -> anyhow::Result<()> {
     println!(rt; "rows 0 2 2+1 / 0 2 3")?;
     let head = head_of(3, &[1], 0, 0)?;
-    let times = [
-        fine(0, 0),
-        fine(2, 0),
-        fine(2, 1),
-        fine(0, 0),
-        fine(2, 0),
-        fine(3, 0),
-    ];
-    say(rt, "  fine", judge_pair(&head, &[], &times))
-}
-
-fn whole(ticks: i32) -> Whole {
-    Whole { ticks }
+    let times = [(0, 0), (2, 0), (2, 1), (0, 0), (2, 0), (3, 0)];
+    let times = times.map(|(ticks, grains)| Fine { ticks, grains });
+    println!(rt; "  fine: {}", judge_pair(&head, &[], &times))?;
+    Ok(())
 }
 
 fn show_four_rows(rt: &HostRuntime) -> anyhow::Result<()> {
     println!(rt; "tests 1 and 2, rows 0 1 2 5 / 0 1 2 2 / 0 1 2 5 / 0 1 2 3")?;
     let head = head_of(4, &[1, 2], 0, 0)?;
-    let (zero, one, two, three, five) = (whole(0), whole(1), whole(2), whole(3), whole(5));
-    let times = [
-        zero, one, two, five, zero, one, two, two, zero, one, two, five, zero, one, two, three,
-    ];
-    say(rt, "  whole", judge_pair(&head, &[], &times))
-}
-
-fn run(rt: &HostRuntime) -> anyhow::Result<()> {
-    let count = count_examples();
-    println!(rt; "{count} examples")?;
-    for example in EXAMPLES {
-        show(rt, example)?;
-    }
-    show_limit(rt)?;
-    show_grains(rt)?;
-    show_four_rows(rt)
+    let times = [0, 1, 2, 5, 0, 1, 2, 2, 0, 1, 2, 5, 0, 1, 2, 3];
+    let times = times.map(|ticks| Whole { ticks });
+    println!(rt; "  whole: {}", judge_pair(&head, &[], &times))?;
+    Ok(())
 }
 
 fn main(rt: HostRuntime) -> anyhow::Result<()> {
-    run(&rt)
+    println!(rt; "{} examples", count_examples())?;
+    for example in EXAMPLES {
+        show(&rt, example)?;
+    }
+    show_limit(&rt)?;
+    show_grains(&rt)?;
+    show_four_rows(&rt)
 }

@@ -1,4 +1,5 @@
 // Every refusal of a header, at every place, and the lines on them.
+use crate::tools::changed;
 use files::headers::{HeaderFault, PlanHeader, read_plan_header};
 use judge::interim::{HeadersFault, judge_headers, write_headers_line};
 use refusals::{NoRoom, Refusal};
@@ -26,10 +27,7 @@ fn table_says(rt: &impl Abort, table: &[u8], fault: HeaderFault) {
 
 fn line_is(rt: &impl Abort, plan: &[u8], table: &[u8], line: &[u8]) -> Result<(), Fail> {
     let mut out = [0xEE; 64];
-    let length = match write_headers_line(plan, table, &mut out) {
-        Ok(length) => length,
-        Err(_) => return Err(Fail::new("no room")),
-    };
+    let length = write_headers_line(plan, table, &mut out)?;
     assert!(rt; length < 64);
     assert!(rt; &out[0..length] == line);
     assert_eq!(rt; out[length], 0xEE);
@@ -72,23 +70,6 @@ fn a_table_cut_at_every_byte(rt: HostRuntime) {
     table_says(&rt, &[1, 2, 3, 0], HeaderFault::Mark);
 }
 
-// The plan with one byte changed.
-fn plan_with(at: usize, byte: u8) -> [u8; 18] {
-    let mut plan = PLAN;
-    if at < 18 {
-        plan[at] = byte;
-    }
-    plan
-}
-
-fn table_with(at: usize, byte: u8) -> [u8; 8] {
-    let mut table = TABLE;
-    if at < 8 {
-        table[at] = byte;
-    }
-    table
-}
-
 #[test]
 fn each_field_of_a_plan(rt: HostRuntime) {
     let cases = [
@@ -108,7 +89,7 @@ fn each_field_of_a_plan(rt: HostRuntime) {
         (14, 16, HeaderFault::Figure(13)),
     ];
     for (at, byte, fault) in cases {
-        plan_says(&rt, &plan_with(at, byte), fault);
+        plan_says(&rt, &changed(PLAN, at, byte), fault);
     }
 }
 
@@ -125,7 +106,7 @@ fn each_field_of_a_table(rt: HostRuntime) {
         (6, 2, HeaderFault::Count(6)),
     ];
     for (at, byte, fault) in cases {
-        table_says(&rt, &table_with(at, byte), fault);
+        table_says(&rt, &changed(TABLE, at, byte), fault);
     }
 }
 
@@ -136,15 +117,9 @@ fn bounds_that_are_just_kept(rt: HostRuntime) {
     ];
     let beside = [0x52, 0x55, 0x4E, 0, 2, 48, 6];
     assert_eq!(rt; judge_headers(&most, &beside), Ok(()));
-    let mut over = most;
-    over[8] = 1;
-    plan_says(&rt, &over, HeaderFault::Count(7));
-    let mut over = most;
-    over[12] = 0x41;
-    plan_says(&rt, &over, HeaderFault::Figure(9));
-    let mut over = most;
-    over[16] = 0x41;
-    plan_says(&rt, &over, HeaderFault::Figure(13));
+    plan_says(&rt, &changed(most, 8, 1), HeaderFault::Count(7));
+    plan_says(&rt, &changed(most, 12, 0x41), HeaderFault::Figure(9));
+    plan_says(&rt, &changed(most, 16, 0x41), HeaderFault::Figure(13));
 }
 
 #[test]
@@ -154,23 +129,33 @@ fn lines_of_refusals(rt: HostRuntime) -> Result<(), Fail> {
     line_is(&rt, &PLAN, &[], b"headers refused 1 table 0\n")?;
     line_is(&rt, &[0; 20], &TABLE, b"headers refused 2 plan 0\n")?;
     line_is(&rt, &PLAN, &PLAN, b"headers refused 2 table 0\n")?;
-    line_is(&rt, &plan_with(4, 7), &TABLE, b"headers refused 3 plan 3\n")?;
+    line_is(
+        &rt,
+        &changed(PLAN, 4, 7),
+        &TABLE,
+        b"headers refused 3 plan 3\n",
+    )?;
     line_is(
         &rt,
         &PLAN,
-        &table_with(4, 2),
+        &changed(TABLE, 4, 2),
         b"headers refused 3 table 3\n",
     )?;
-    line_is(&rt, &plan_with(7, 9), &TABLE, b"headers refused 4 plan 7\n")?;
+    line_is(
+        &rt,
+        &changed(PLAN, 7, 9),
+        &TABLE,
+        b"headers refused 4 plan 7\n",
+    )?;
     line_is(
         &rt,
         &PLAN,
-        &table_with(6, 2),
+        &changed(TABLE, 6, 2),
         b"headers refused 4 table 6\n",
     )?;
     line_is(
         &rt,
-        &plan_with(13, 9),
+        &changed(PLAN, 13, 9),
         &TABLE,
         b"headers refused 5 plan 13\n",
     )
@@ -182,11 +167,5 @@ fn a_line_without_room(rt: HostRuntime) {
     let answer = write_headers_line(&PLAN, &TABLE, &mut out);
     assert_eq!(rt; answer, Err(NoRoom(14)));
     assert!(rt; out == [0xEE; 13]);
-    let refusal = Refusal {
-        number: 11,
-        first: 14,
-        second: 0,
-        third: 0,
-    };
-    assert_eq!(rt; Refusal::from(NoRoom(14)), refusal);
+    assert_eq!(rt; Refusal::from(NoRoom(14)), Refusal::at(11, 14));
 }

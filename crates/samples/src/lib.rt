@@ -15,3 +15,5 @@ mod run_cases;
 mod table_file_cases;
 #[cfg(test)]
 mod time_cases;
+#[cfg(test)]
+mod tools;

@@ -1,29 +1,18 @@
 // What the rules see, at their own moments and around them.
-use fine::Fine;
+use crate::tools::{fine, whole};
 use refusals::Refusal;
 use rules::{Delay, Prompt, Rounds, Rule, RuleFault, named_rule};
 use std::test::Fail;
-use whole::Whole;
-
-fn fine(ticks: i32, grains: i32) -> Fine {
-    Fine { ticks, grains }
-}
 
 #[test]
 fn prompt_rule(rt: HostRuntime) {
     let rule = Prompt::new();
-    assert_eq!(rt; rule.is_seen(0, fine(5, 0), fine(5, 0)), false);
-    assert_eq!(rt; rule.is_seen(0, fine(5, 0), fine(5, 1)), true);
-    assert_eq!(rt; rule.is_seen(0, fine(5, 0), fine(5, -1)), false);
-    assert_eq!(rt; rule.is_seen(0, fine(-7, 3), fine(-7, 4)), true);
-    assert_eq!(rt;
-        rule.is_seen(0, Whole { ticks: 5 }, Whole { ticks: 6 }),
-        true
-    );
-    assert_eq!(rt;
-        rule.is_seen(0, Whole { ticks: 5 }, Whole { ticks: 5 }),
-        false
-    );
+    assert!(rt; !rule.is_seen(0, fine(5, 0), fine(5, 0)));
+    assert!(rt; rule.is_seen(0, fine(5, 0), fine(5, 1)));
+    assert!(rt; !rule.is_seen(0, fine(5, 0), fine(5, -1)));
+    assert!(rt; rule.is_seen(0, fine(-7, 3), fine(-7, 4)));
+    assert!(rt; rule.is_seen(0, whole(5), whole(6)));
+    assert!(rt; !rule.is_seen(0, whole(5), whole(5)));
 }
 
 #[test]
@@ -52,14 +41,8 @@ fn rounds_of_five(rt: HostRuntime) -> Result<(), Fail> {
     for (taken, step, seen) in cases {
         assert_eq!(rt; rule.is_seen(1, taken, step), seen);
     }
-    assert_eq!(rt;
-        rule.is_seen(1, Whole { ticks: 4 }, Whole { ticks: 9 }),
-        true
-    );
-    assert_eq!(rt;
-        rule.is_seen(1, Whole { ticks: 5 }, Whole { ticks: 9 }),
-        false
-    );
+    assert!(rt; rule.is_seen(1, whole(4), whole(9)));
+    assert!(rt; !rule.is_seen(1, whole(5), whole(9)));
     Ok(())
 }
 
@@ -78,10 +61,10 @@ fn delay_of_three(rt: HostRuntime) -> Result<(), Fail> {
         assert_eq!(rt; rule.is_seen(2, taken, step), seen);
     }
     let late = Delay::new(3, Rounds::new(5)?)?;
-    assert_eq!(rt; late.is_seen(2, fine(2, -1), fine(5, 0)), true);
-    assert_eq!(rt; late.is_seen(2, fine(2, 0), fine(5, 0)), false);
-    assert_eq!(rt; late.is_seen(2, fine(2, 0), fine(10, -1)), false);
-    assert_eq!(rt; late.is_seen(2, fine(2, 0), fine(10, 0)), true);
+    assert!(rt; late.is_seen(2, fine(2, -1), fine(5, 0)));
+    assert!(rt; !late.is_seen(2, fine(2, 0), fine(5, 0)));
+    assert!(rt; !late.is_seen(2, fine(2, 0), fine(10, -1)));
+    assert!(rt; late.is_seen(2, fine(2, 0), fine(10, 0)));
     Ok(())
 }
 
@@ -92,33 +75,27 @@ fn named_rules(rt: HostRuntime) -> Result<(), Fail> {
     let rounds = named_rule(5, 0)?;
     let both = named_rule(5, 3)?;
     let taken = fine(2, 0);
-    assert_eq!(rt; prompt.is_seen(0, taken, fine(2, 1)), true);
-    assert_eq!(rt; late.is_seen(0, taken, fine(5, 0)), false);
-    assert_eq!(rt; late.is_seen(0, taken, fine(5, 1)), true);
-    assert_eq!(rt; rounds.is_seen(0, taken, fine(4, 0)), false);
-    assert_eq!(rt; rounds.is_seen(0, taken, fine(5, 0)), true);
-    assert_eq!(rt; both.is_seen(0, taken, fine(9, 0)), false);
-    assert_eq!(rt; both.is_seen(0, taken, fine(10, 0)), true);
+    assert!(rt; prompt.is_seen(0, taken, fine(2, 1)));
+    assert!(rt; !late.is_seen(0, taken, fine(5, 0)));
+    assert!(rt; late.is_seen(0, taken, fine(5, 1)));
+    assert!(rt; !rounds.is_seen(0, taken, fine(4, 0)));
+    assert!(rt; rounds.is_seen(0, taken, fine(5, 0)));
+    assert!(rt; !both.is_seen(0, taken, fine(9, 0)));
+    assert!(rt; both.is_seen(0, taken, fine(10, 0)));
     Ok(())
 }
 
 #[test]
 fn parameters(rt: HostRuntime) {
-    assert_eq!(rt; Rounds::new(0).is_ok(), false);
-    assert_eq!(rt; Rounds::new(1).is_ok(), true);
-    assert_eq!(rt; Rounds::new(1_000_000).is_ok(), true);
-    assert_eq!(rt; Rounds::new(1_000_001).is_ok(), false);
-    assert_eq!(rt; Delay::new(1_000_000, Prompt::new()).is_ok(), true);
-    assert_eq!(rt; Delay::new(1_000_001, Prompt::new()).is_ok(), false);
-    assert_eq!(rt; named_rule(1_000_000, 1_000_000).is_ok(), true);
-    assert_eq!(rt; named_rule(1_000_001, 0).is_ok(), false);
-    assert_eq!(rt; named_rule(0, 1_000_001).is_ok(), false);
-    let bad = Refusal {
-        number: 5,
-        first: 0,
-        second: 0,
-        third: 0,
-    };
-    assert_eq!(rt; Refusal::from(RuleFault::BadRound), bad);
-    assert_eq!(rt; Refusal::from(RuleFault::BadDelay), bad);
+    assert!(rt; Rounds::new(0).is_err());
+    assert!(rt; Rounds::new(1).is_ok());
+    assert!(rt; Rounds::new(1_000_000).is_ok());
+    assert!(rt; Rounds::new(1_000_001).is_err());
+    assert!(rt; Delay::new(1_000_000, Prompt::new()).is_ok());
+    assert!(rt; Delay::new(1_000_001, Prompt::new()).is_err());
+    assert!(rt; named_rule(1_000_000, 1_000_000).is_ok());
+    assert!(rt; named_rule(1_000_001, 0).is_err());
+    assert!(rt; named_rule(0, 1_000_001).is_err());
+    assert_eq!(rt; Refusal::from(RuleFault::BadRound), Refusal::at(5, 0));
+    assert_eq!(rt; Refusal::from(RuleFault::BadDelay), Refusal::at(5, 0));
 }

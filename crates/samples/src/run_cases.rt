@@ -1,76 +1,59 @@
 // Runs: steps and outcomes as they come, and what is refused.
+use crate::tools::{TIMES, whole};
 use heads::Head;
-use plans::{Limit, Pair};
+use plans::Pair;
 use refusals::Refusal;
-use rules::{BaseRule, Delay};
 use runs::{HandedBack, ReleasedStep, Run, Token, void};
 use std::process::Abort;
 use std::test::Fail;
 use whole::Whole;
 
-// What a call said: a step by its point and ticks, and whether it came with a token; or a refusal.
+// What a call said: a step, and whether it came with a token; a refusal; or nothing, where no outcome was taken.
 #[derive(Clone, Copy, PartialEq, Eq, Debug)]
-struct Said {
-    point: u8,
-    ticks: i32,
-    token: bool,
-    refusal: u16,
-    place: usize,
+enum Said {
+    Step { point: u8, ticks: i32, token: bool },
+    Refused(Refusal),
+    Nothing,
 }
 
-const NOTHING: Said = Said {
-    point: 0,
-    ticks: 0,
-    token: false,
-    refusal: 0,
-    place: 0,
-};
-
 fn step(point: u8, ticks: i32, token: bool) -> Said {
-    Said {
+    Said::Step {
         point,
         ticks,
         token,
-        ..NOTHING
     }
 }
 
-fn refused(refusal: u16, place: usize) -> Said {
-    Said {
-        refusal,
-        place,
-        ..NOTHING
-    }
+fn refused(number: u16, place: usize) -> Said {
+    Said::Refused(Refusal::at(number, place))
 }
 
-fn at(ticks: i32) -> Whole {
-    Whole { ticks }
+// A plan with no limits, and its table.
+fn pair_of<'a>(head: &'a Head, times: &'a [Whole]) -> Pair<'a, Whole> {
+    Pair {
+        head,
+        limits: &[],
+        times,
+    }
 }
 
 // Releases a step. Its token is handed on.
-fn release(run: &mut Run, pair: &Pair<Whole>, rule: &Delay<BaseRule>) -> (Said, Option<Token>) {
-    match run.release(pair, rule) {
-        Ok(ReleasedStep { point, at, token }) => match token {
-            Some(token) => (step(point, at.ticks, true), Some(token)),
-            None => (step(point, at.ticks, false), None),
-        },
-        Err(fault) => {
-            let refusal = Refusal::from(fault);
-            (refused(refusal.number, refusal.first), None)
-        }
+fn release(run: &mut Run, pair: &Pair<Whole>) -> (Said, Option<Token>) {
+    match run.release(pair, &pair.head.rule()) {
+        Ok(ReleasedStep { point, at, token }) => { (step(point, at.ticks, token.is_some()), token) }
+        Err(fault) => (Said::Refused(Refusal::from(fault)), None),
     }
 }
 
 fn void_any(token: Option<Token>) {
-    match token {
-        Some(token) => void(token),
-        None => {}
+    if let Some(token) = token {
+        void(token);
     }
 }
 
 // The same, and its token is voided.
-fn says(run: &mut Run, pair: &Pair<Whole>, rule: &Delay<BaseRule>) -> Said {
-    let (said, token) = release(run, pair, rule);
+fn says(run: &mut Run, pair: &Pair<Whole>) -> Said {
+    let (said, token) = release(run, pair);
     void_any(token);
     said
 }
@@ -96,23 +79,14 @@ fn is_taken(run: &mut Run, token: Option<Token>, outcome: bool) -> bool {
 #[test]
 fn a_run_with_a_late_outcome(rt: HostRuntime) -> Result<(), Fail> {
     let head = Head::new(3, &[1], 0, 0)?;
-    let limits: [Limit<Whole>; 0] = [];
-    let times = [at(0), at(2), at(5), at(0), at(2), at(7)];
-    let pair = Pair {
-        head: &head,
-        limits: &limits,
-        times: &times,
-    };
-    let rule = head.rule();
-    let Ok(mut run) = Run::open(9, &pair, &rule) else {
-        return Err(Fail::new("refused"));
-    };
-    let start = says(&mut run, &pair, &rule);
-    let (test, token) = release(&mut run, &pair, &rule);
-    let waits = says(&mut run, &pair, &rule);
+    let pair = pair_of(&head, &TIMES);
+    let mut run = Run::open(9, &pair, &head.rule())?;
+    let start = says(&mut run, &pair);
+    let (test, token) = release(&mut run, &pair);
+    let waits = says(&mut run, &pair);
     let taken = is_taken(&mut run, token, true);
-    let last = says(&mut run, &pair, &rule);
-    let end = says(&mut run, &pair, &rule);
+    let last = says(&mut run, &pair);
+    let end = says(&mut run, &pair);
     assert_eq!(rt; start, step(0, 0, false));
     assert_eq!(rt; test, step(1, 2, true));
     assert_eq!(rt; waits, refused(16, 0));
@@ -127,34 +101,23 @@ fn a_run_with_a_late_outcome(rt: HostRuntime) -> Result<(), Fail> {
 #[test]
 fn tokens_of_other_runs(rt: HostRuntime) -> Result<(), Fail> {
     let head = Head::new(3, &[1], 0, 0)?;
-    let limits: [Limit<Whole>; 0] = [];
-    let times = [at(0), at(2), at(5), at(0), at(2), at(7)];
-    let pair = Pair {
-        head: &head,
-        limits: &limits,
-        times: &times,
-    };
-    let rule = head.rule();
-    let (Ok(mut nine), Ok(mut eight), Ok(mut other_nine)) = (
-        Run::open(9, &pair, &rule),
-        Run::open(8, &pair, &rule),
-        Run::open(9, &pair, &rule),
-    ) else {
-        return Err(Fail::new("refused"));
-    };
-    let _ = says(&mut nine, &pair, &rule);
-    let _ = says(&mut eight, &pair, &rule);
-    let _ = says(&mut other_nine, &pair, &rule);
-    let (_, token) = release(&mut nine, &pair, &rule);
+    let pair = pair_of(&head, &TIMES);
+    let mut nine = Run::open(9, &pair, &head.rule())?;
+    let mut eight = Run::open(8, &pair, &head.rule())?;
+    let mut other_nine = Run::open(9, &pair, &head.rule())?;
+    let _ = says(&mut nine, &pair);
+    let _ = says(&mut eight, &pair);
+    let _ = says(&mut other_nine, &pair);
+    let (_, token) = release(&mut nine, &pair);
     let (early, token) = tell(&mut other_nine, token, true);
-    let (_, other_token) = release(&mut other_nine, &pair, &rule);
-    let (_, wrong_token) = release(&mut eight, &pair, &rule);
+    let (_, other_token) = release(&mut other_nine, &pair);
+    let (_, wrong_token) = release(&mut eight, &pair);
     let (wrong, wrong_token) = tell(&mut nine, wrong_token, true);
     let own = is_taken(&mut nine, token, true);
     let again = is_taken(&mut nine, other_token, false);
     let back_home = is_taken(&mut eight, wrong_token, false);
-    let true_step = says(&mut nine, &pair, &rule);
-    let false_step = says(&mut eight, &pair, &rule);
+    let true_step = says(&mut nine, &pair);
+    let false_step = says(&mut eight, &pair);
     assert!(rt; !early, "not yet released there");
     assert!(rt; !wrong, "another number");
     assert!(rt; own);
@@ -169,25 +132,12 @@ fn tokens_of_other_runs(rt: HostRuntime) -> Result<(), Fail> {
 #[test]
 fn a_voided_token(rt: HostRuntime) -> Result<(), Fail> {
     let head = Head::new(3, &[1], 0, 0)?;
-    let limits: [Limit<Whole>; 0] = [];
-    let times = [at(0), at(2), at(5), at(0), at(2), at(7)];
-    let pair = Pair {
-        head: &head,
-        limits: &limits,
-        times: &times,
-    };
-    let rule = head.rule();
-    let Ok(mut run) = Run::open(9, &pair, &rule) else {
-        return Err(Fail::new("refused"));
-    };
-    let start = says(&mut run, &pair, &rule);
-    let test = says(&mut run, &pair, &rule);
-    let waits = says(&mut run, &pair, &rule);
-    let still = says(&mut run, &pair, &rule);
-    assert_eq!(rt; start, step(0, 0, false));
-    assert_eq!(rt; test, step(1, 2, true));
-    assert_eq!(rt; waits, refused(16, 0));
-    assert_eq!(rt; still, refused(16, 0));
+    let pair = pair_of(&head, &TIMES);
+    let mut run = Run::open(9, &pair, &head.rule())?;
+    assert_eq!(rt; says(&mut run, &pair), step(0, 0, false));
+    assert_eq!(rt; says(&mut run, &pair), step(1, 2, true));
+    assert_eq!(rt; says(&mut run, &pair), refused(16, 0));
+    assert_eq!(rt; says(&mut run, &pair), refused(16, 0));
     Ok(())
 }
 
@@ -195,84 +145,51 @@ fn a_voided_token(rt: HostRuntime) -> Result<(), Fail> {
 #[test]
 fn other_plans(rt: HostRuntime) -> Result<(), Fail> {
     let head = Head::new(3, &[1], 0, 0)?;
-    let limits: [Limit<Whole>; 0] = [];
-    let times = [at(0), at(2), at(5), at(0), at(2), at(7)];
-    let pair = Pair {
-        head: &head,
-        limits: &limits,
-        times: &times,
-    };
-    let rule = head.rule();
-    let Ok(mut run) = Run::open(9, &pair, &rule) else {
-        return Err(Fail::new("refused"));
-    };
+    let pair = pair_of(&head, &TIMES);
+    let mut run = Run::open(9, &pair, &head.rule())?;
     let smaller = Head::new(2, &[1], 0, 0)?;
     let untested = Head::new(3, &[], 0, 0)?;
-    let of_two = [at(0), at(2), at(0), at(2)];
-    let two_points = Pair {
-        head: &smaller,
-        limits: &limits,
-        times: &of_two,
-    };
-    let of_three = [at(0), at(2), at(5)];
-    let no_test = Pair {
-        head: &untested,
-        limits: &limits,
-        times: &of_three,
-    };
-    let short = Pair {
-        head: &smaller,
-        limits: &limits,
-        times: &of_three,
-    };
-    assert_eq!(rt; says(&mut run, &two_points, &rule), refused(14, 0));
-    assert_eq!(rt; says(&mut run, &no_test, &rule), refused(14, 0));
-    assert_eq!(rt; says(&mut run, &short, &rule), refused(4, 1));
-    assert_eq!(rt; says(&mut run, &pair, &rule), step(0, 0, false));
-    let ahead = [at(0), at(2), at(2), at(0), at(2), at(3)];
-    let early = Pair {
-        head: &head,
-        limits: &limits,
-        times: &ahead,
-    };
-    match Run::open(9, &early, &rule) {
-        Ok(_) => Err(Fail::new("a run of a refused pair")),
-        Err(fault) => {
-            assert_eq!(rt; Refusal::from(fault).number, 13);
-            Ok(())
-        },
-    }
+    let of_two = [0, 2, 0, 2].map(whole);
+    let of_three = [0, 2, 5].map(whole);
+    let two_points = pair_of(&smaller, &of_two);
+    let no_test = pair_of(&untested, &of_three);
+    let short = pair_of(&smaller, &of_three);
+    assert_eq!(rt; says(&mut run, &two_points), refused(14, 0));
+    assert_eq!(rt; says(&mut run, &no_test), refused(14, 0));
+    assert_eq!(rt; says(&mut run, &short), refused(4, 1));
+    assert_eq!(rt; says(&mut run, &pair), step(0, 0, false));
+    let ahead = [0, 2, 2, 0, 2, 3].map(whole);
+    let early = Run::open(9, &pair_of(&head, &ahead), &head.rule());
+    let number = early.err().map(|fault| Refusal::from(fault).number);
+    assert_eq!(rt; number, Some(13));
+    Ok(())
 }
 
 // Eight points, of which 1 to 6 are tests at 1; the last stands at 2 and then so many later as the row's number.
 fn six_tests() -> [Whole; 512] {
-    let mut times = [at(0); 512];
-    for row in 0..64 {
-        for point in 1..7 {
-            times[row * 8 + point] = at(1);
+    let mut times = [whole(1); 512];
+    for (i, time) in times.iter_mut().enumerate() {
+        let row = i / 8;
+        match i % 8 {
+            0 => *time = whole(0),
+            7 => *time = whole(2 + row as i32),
+            _ => {}
         }
-        times[row * 8 + 7] = at(2 + row as i32);
     }
     times
 }
 
 // Tells a token's letter as the row has it, and gives what a release says next.
-fn tell_as(
-    run: &mut Run,
-    pair: &Pair<Whole>,
-    rule: &Delay<BaseRule>,
-    row: u8,
-    token: Option<Token>,
-) -> Said {
+fn tell_as(run: &mut Run, pair: &Pair<Whole>, row: u8, token: Option<Token>) -> Said {
     let Some(token) = token else {
-        return NOTHING;
+        return Said::Nothing;
     };
     let letter = token.letter();
     let outcome = letter < 8 && (row >> letter) % 2 == 1;
     if is_taken(run, Some(token), outcome) {
-        says(run, pair, rule)
+        says(run, pair)
     } else {
-        NOTHING
+        Said::Nothing
     }
 }
 
@@ -284,31 +201,26 @@ enum Order {
 }
 
 // What releases say after each of six tellings, in an order.
-fn six_told(
-    run: &mut Run,
-    pair: &Pair<Whole>,
-    rule: &Delay<BaseRule>,
-    row: u8,
-    order: Order,
-) -> [Said; 6] {
-    let (_, a) = release(run, pair, rule);
-    let (_, b) = release(run, pair, rule);
-    let (_, c) = release(run, pair, rule);
-    let (_, d) = release(run, pair, rule);
-    let (_, e) = release(run, pair, rule);
-    let (_, f) = release(run, pair, rule);
+fn six_told(run: &mut Run, pair: &Pair<Whole>, row: u8, order: Order) -> [Said; 6] {
+    let (_, a) = release(run, pair);
+    let (_, b) = release(run, pair);
+    let (_, c) = release(run, pair);
+    let (_, d) = release(run, pair);
+    let (_, e) = release(run, pair);
+    let (_, f) = release(run, pair);
     let (a, b, c, d, e, f) = match order {
         Order::Upwards => (a, b, c, d, e, f),
         Order::Downwards => (f, e, d, c, b, a),
         Order::Mixed => (a, c, b, f, e, d),
     };
+    // One by one: a token has to be spent, so an array of them cannot be mapped.
     [
-        tell_as(run, pair, rule, row, a),
-        tell_as(run, pair, rule, row, b),
-        tell_as(run, pair, rule, row, c),
-        tell_as(run, pair, rule, row, d),
-        tell_as(run, pair, rule, row, e),
-        tell_as(run, pair, rule, row, f),
+        tell_as(run, pair, row, a),
+        tell_as(run, pair, row, b),
+        tell_as(run, pair, row, c),
+        tell_as(run, pair, row, d),
+        tell_as(run, pair, row, e),
+        tell_as(run, pair, row, f),
     ]
 }
 
@@ -321,27 +233,16 @@ fn six_say(
     ticks: i32,
 ) -> Result<(), Fail> {
     let head = Head::new(8, &[1, 2, 3, 4, 5, 6], 0, 0)?;
-    let limits: [Limit<Whole>; 0] = [];
     let times = six_tests();
-    let pair = Pair {
-        head: &head,
-        limits: &limits,
-        times: &times,
-    };
-    let rule = head.rule();
-    let Ok(mut run) = Run::open(1, &pair, &rule) else {
-        return Err(Fail::new("refused"));
-    };
-    assert_eq!(rt; says(&mut run, &pair, &rule), step(0, 0, false));
-    let [a, b, c, d, e, last] = six_told(&mut run, &pair, &rule, row, order);
-    let [first, second, third, fourth, fifth] = waits;
-    assert_eq!(rt; a, refused(16, first));
-    assert_eq!(rt; b, refused(16, second));
-    assert_eq!(rt; c, refused(16, third));
-    assert_eq!(rt; d, refused(16, fourth));
-    assert_eq!(rt; e, refused(16, fifth));
-    assert_eq!(rt; last, step(7, ticks, false));
-    assert_eq!(rt; says(&mut run, &pair, &rule), refused(15, 0));
+    let pair = pair_of(&head, &times);
+    let mut run = Run::open(1, &pair, &head.rule())?;
+    assert_eq!(rt; says(&mut run, &pair), step(0, 0, false));
+    let said = six_told(&mut run, &pair, row, order);
+    for (answer, letter) in said.iter().zip(waits) {
+        assert_eq!(rt; *answer, refused(16, letter));
+    }
+    assert_eq!(rt; said[5], step(7, ticks, false));
+    assert_eq!(rt; says(&mut run, &pair), refused(15, 0));
     Ok(())
 }
 

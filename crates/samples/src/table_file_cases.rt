@@ -1,5 +1,5 @@
 // Table files of both kinds: every refusal at every kind of field, and the largest files.
-use fine::Fine;
+use crate::tools::{changed, fine, whole};
 use heads::Head;
 use refusals::Refusal;
 use std::process::Abort;
@@ -15,83 +15,42 @@ const WHOLE: [u8; 31] =
 const FINE: [u8; 55] =
     *b"\x52\x55\x4E\0\x02\x03\x01\0\0\0\0\0\0\0\0\0\0\0\x02\0\0\0\0\0\0\0\x02\0\0\0\x01\0\0\0\0\0\0\0\0\0\0\0\x02\0\0\0\0\0\0\0\x03\xFF\xFF\xFF\xFF";
 
-fn head(points: u8, tests: &[u8]) -> Result<Head, Fail> {
-    match Head::new(points, tests, 0, 0) {
-        Ok(head) => Ok(head),
-        Err(_) => Err(Fail::new("no head")),
-    }
-}
-
-fn refusal(number: u16, first: usize) -> Refusal {
-    Refusal {
-        number,
-        first,
-        second: 0,
-        third: 0,
-    }
-}
-
 fn read<T: Time>(file: &[u8], head: &Head, times: &mut [T]) -> Result<usize, Refusal> {
-    match read_table(file, head, times) {
-        Ok(size) => Ok(size),
-        Err(fault) => Err(Refusal::from(fault)),
-    }
+    read_table(file, head, times).map_err(Refusal::from)
 }
 
 fn write<T: Time>(head: &Head, times: &[T], file: &mut [u8]) -> Result<usize, Refusal> {
-    match write_table(head, times, file) {
-        Ok(length) => Ok(length),
-        Err(fault) => Err(Refusal::from(fault)),
-    }
-}
-
-fn whole(ticks: i32) -> Whole {
-    Whole { ticks }
-}
-
-fn fine(ticks: i32, grains: i32) -> Fine {
-    Fine { ticks, grains }
-}
-
-fn are_ticks(rt: &impl Abort, times: &[Whole], ticks: &[i32]) {
-    assert_eq!(rt; times.len(), ticks.len());
-    for (time, tick) in times.iter().zip(ticks.iter()) {
-        assert_eq!(rt; time.ticks, *tick);
-    }
-}
-
-fn are_fine(rt: &impl Abort, times: &[Fine], ticks: &[i32], grains: &[i32]) {
-    for (time, tick) in times.iter().zip(ticks.iter()) {
-        assert_eq!(rt; time.ticks, *tick);
-    }
-    for (time, grain) in times.iter().zip(grains.iter()) {
-        assert_eq!(rt; time.grains, *grain);
-    }
+    write_table(head, times, file).map_err(Refusal::from)
 }
 
 // The refusal of a file, which leaves the array as it was.
-fn whole_says(rt: &impl Abort, file: &[u8], number: u16, place: usize) -> Result<(), Fail> {
-    let mut times = [whole(-7); 7];
-    let answer = read(file, &head(3, &[1])?, &mut times);
-    assert_eq!(rt; answer, Err(refusal(number, place)));
-    are_ticks(rt, &times, &[-7; 7]);
+fn refuses<T: Time + PartialEq, const N: usize>(
+    rt: &impl Abort,
+    file: &[u8],
+    before: [T; N],
+    refusal: Refusal,
+) -> Result<(), Fail> {
+    let mut times = before;
+    let answer = read(file, &Head::new(3, &[1], 0, 0)?, &mut times);
+    assert_eq!(rt; answer, Err(refusal));
+    assert!(rt; times == before);
     Ok(())
 }
 
+fn whole_says(rt: &impl Abort, file: &[u8], number: u16, place: usize) -> Result<(), Fail> {
+    refuses(rt, file, [whole(-7); 7], Refusal::at(number, place))
+}
+
 fn fine_says(rt: &impl Abort, file: &[u8], number: u16, place: usize) -> Result<(), Fail> {
-    let mut times = [fine(-7, 9); 6];
-    let answer = read(file, &head(3, &[1])?, &mut times);
-    assert_eq!(rt; answer, Err(refusal(number, place)));
-    are_fine(rt, &times, &[-7; 6], &[9; 6]);
-    Ok(())
+    refuses(rt, file, [fine(-7, 9); 6], Refusal::at(number, place))
 }
 
 #[test]
 fn a_whole_table(rt: HostRuntime) -> Result<(), Fail> {
-    let head = head(3, &[1])?;
+    let head = Head::new(3, &[1], 0, 0)?;
     let mut times = [whole(-7); 8];
     assert_eq!(rt; read(&WHOLE, &head, &mut times), Ok(6));
-    are_ticks(&rt, &times, &[0, 2, 2, 0, 2, 3, -7, -7]);
+    assert_eq!(rt; times, [0, 2, 2, 0, 2, 3, -7, -7].map(whole));
     let mut out = [0xEE; 33];
     assert_eq!(rt; write(&head, &times[0..6], &mut out), Ok(31));
     assert!(rt; out[0..31] == WHOLE[0..31]);
@@ -101,15 +60,11 @@ fn a_whole_table(rt: HostRuntime) -> Result<(), Fail> {
 
 #[test]
 fn a_fine_table(rt: HostRuntime) -> Result<(), Fail> {
-    let head = head(3, &[1])?;
+    let head = Head::new(3, &[1], 0, 0)?;
     let mut times = [fine(-7, 9); 7];
     assert_eq!(rt; read(&FINE, &head, &mut times), Ok(6));
-    are_fine(
-        &rt,
-        &times,
-        &[0, 2, 2, 0, 2, 3, -7],
-        &[0, 0, 1, 0, 0, -1, 9],
-    );
+    let after = [(0, 0), (2, 0), (2, 1), (0, 0), (2, 0), (3, -1), (-7, 9)];
+    assert_eq!(rt; times, after.map(|(ticks, grains)| fine(ticks, grains)));
     let mut out = [0xEE; 56];
     assert_eq!(rt; write(&head, &times[0..6], &mut out), Ok(55));
     assert!(rt; out[0..55] == FINE[0..55]);
@@ -161,11 +116,7 @@ fn fields_of_a_whole_table(rt: HostRuntime) -> Result<(), Fail> {
         (28, 0x10, 9, 27),
     ];
     for (at, byte, number, place) in cases {
-        let mut file = WHOLE;
-        if at < 31 {
-            file[at] = byte;
-        }
-        whole_says(&rt, &file, number, place)?;
+        whole_says(&rt, &changed(WHOLE, at, byte), number, place)?;
     }
     whole_says(&rt, &FINE, 3, 3)
 }
@@ -186,46 +137,38 @@ fn fields_of_a_fine_table(rt: HostRuntime) -> Result<(), Fail> {
         (50, 0, 9, 47),
     ];
     for (at, byte, number, place) in cases {
-        let mut file = FINE;
-        if at < 55 {
-            file[at] = byte;
-        }
-        fine_says(&rt, &file, number, place)?;
+        fine_says(&rt, &changed(FINE, at, byte), number, place)?;
     }
     fine_says(&rt, &WHOLE, 3, 3)
 }
 
 #[test]
 fn bounds_of_a_whole_time(rt: HostRuntime) -> Result<(), Fail> {
-    let head = head(2, &[])?;
+    let head = Head::new(2, &[], 0, 0)?;
     let mut times = [whole(-7); 2];
     let most = *b"\x52\x55\x4E\0\x01\x02\0\0\0\0\0\0\x0F\x42\x40";
     assert_eq!(rt; read(&most, &head, &mut times), Ok(2));
-    are_ticks(&rt, &times, &[0, 1_000_000]);
+    assert_eq!(rt; times, [whole(0), whole(1_000_000)]);
     let over = *b"\x52\x55\x4E\0\x01\x02\0\0\0\0\0\0\x0F\x42\x41";
-    assert_eq!(rt; read(&over, &head, &mut times), Err(refusal(9, 11)));
+    assert_eq!(rt; read(&over, &head, &mut times), Err(Refusal::at(9, 11)));
     Ok(())
 }
 
 #[test]
 fn bounds_of_a_fine_time(rt: HostRuntime) -> Result<(), Fail> {
-    let head = head(2, &[])?;
+    let head = Head::new(2, &[], 0, 0)?;
     let mut times = [fine(-7, 9); 2];
     let low = *b"\x52\x55\x4E\0\x02\x02\0\0\0\0\0\0\0\0\0\0\0\0\x01\xFF\xFF\xFC\x18";
     assert_eq!(rt; read(&low, &head, &mut times), Ok(2));
-    are_fine(&rt, &times, &[0, 1], &[0, -1_000]);
+    assert_eq!(rt; times, [fine(0, 0), fine(1, -1_000)]);
     let under = *b"\x52\x55\x4E\0\x02\x02\0\0\0\0\0\0\0\0\0\0\0\0\x01\xFF\xFF\xFC\x17";
-    assert_eq!(rt; read(&under, &head, &mut times), Err(refusal(9, 15)));
+    assert_eq!(rt; read(&under, &head, &mut times), Err(Refusal::at(9, 15)));
     Ok(())
 }
 
 // The refusal of a file that is read into five times. 11 comes after the header and before the times.
 fn short_says(rt: &impl Abort, file: &[u8], number: u16, place: usize) -> Result<(), Fail> {
-    let mut times = [whole(-7); 5];
-    let answer = read(file, &head(3, &[1])?, &mut times);
-    assert_eq!(rt; answer, Err(refusal(number, place)));
-    are_ticks(rt, &times, &[-7; 5]);
-    Ok(())
+    refuses(rt, file, [whole(-7); 5], Refusal::at(number, place))
 }
 
 #[test]
@@ -233,18 +176,16 @@ fn an_array_that_is_too_short(rt: HostRuntime) -> Result<(), Fail> {
     short_says(&rt, &WHOLE, 11, 6)?;
     short_says(&rt, &WHOLE[0..7], 11, 6)?;
     short_says(&rt, &WHOLE[0..6], 1, 6)?;
-    let mut file = WHOLE;
-    file[10] = 1;
-    short_says(&rt, &file, 11, 6)?;
-    file[6] = 0;
-    short_says(&rt, &file, 4, 6)
+    let late = changed(WHOLE, 10, 1);
+    short_says(&rt, &late, 11, 6)?;
+    short_says(&rt, &changed(late, 6, 0), 4, 6)
 }
 
 // The refusal of times that are written to so many bytes, which stay as they were.
 fn unwritten(rt: &impl Abort, times: &[Whole], number: u16, place: usize) -> Result<(), Fail> {
     let mut out = [0xEE; 30];
-    let answer = write(&head(3, &[1])?, times, &mut out);
-    assert_eq!(rt; answer, Err(refusal(number, place)));
+    let answer = write(&Head::new(3, &[1], 0, 0)?, times, &mut out);
+    assert_eq!(rt; answer, Err(Refusal::at(number, place)));
     assert!(rt; out == [0xEE; 30]);
     Ok(())
 }
@@ -268,63 +209,50 @@ fn tables_that_are_not_written(rt: HostRuntime) -> Result<(), Fail> {
     unwritten(&rt, &[zero, two, two, zero, most, zero], 11, 31)
 }
 
-// 48 points and 6 tests: zero for point 0, and one time for all others.
-fn fill_rows<T: Time>(zero: T, times: &mut [T]) {
-    for (i, time) in times.iter_mut().enumerate() {
-        if i % 48 == 0 {
-            *time = zero;
-        }
-    }
-}
-
-fn largest<T: Time>(
+// 48 points and 6 tests: point 0 at zero, and all others at the time that is lent. What is read into has room
+// for more times than that.
+fn largest<T: Time + PartialEq>(
     rt: &impl Abort,
-    times: &[T],
+    zero: T,
+    times: &mut [T],
     out: &mut [u8],
     back: &mut [T],
 ) -> Result<(), Fail> {
-    let head = head(48, &[1, 2, 3, 4, 5, 6])?;
+    let head = Head::new(48, &[1, 2, 3, 4, 5, 6], 0, 0)?;
+    for start in times.iter_mut().step_by(48) {
+        *start = zero;
+    }
     let length = 7 + T::width() * 3072;
     assert!(rt; out.len() > length && back.len() > 3072);
+    let before = back[3072];
     let short = write(&head, times, &mut out[0..length - 1]);
-    assert_eq!(rt; short, Err(refusal(11, length)));
+    assert_eq!(rt; short, Err(Refusal::at(11, length)));
     assert_eq!(rt; out[0], 0xEE);
     assert_eq!(rt; write(&head, times, out), Ok(length));
     assert_eq!(rt; out[length], 0xEE);
     let longer = read(&out[0..length + 1], &head, back);
-    assert_eq!(rt; longer, Err(refusal(10, length)));
+    assert_eq!(rt; longer, Err(Refusal::at(10, length)));
     let cut = read(&out[0..length - 1], &head, back);
-    assert_eq!(rt; cut, Err(refusal(1, length - 1)));
+    assert_eq!(rt; cut, Err(Refusal::at(1, length - 1)));
     let short = read(&out[0..length], &head, &mut back[0..3071]);
-    assert_eq!(rt; short, Err(refusal(11, 3072)));
+    assert_eq!(rt; short, Err(Refusal::at(11, 3072)));
     assert_eq!(rt; read(&out[0..length], &head, back), Ok(3072));
+    assert!(rt; back[0..3072] == times[..] && back[3072] == before);
     Ok(())
 }
 
 #[test]
 fn the_largest_whole_table(rt: HostRuntime) -> Result<(), Fail> {
     let mut times = [whole(1_000_000); 3072];
-    fill_rows(whole(0), &mut times);
     let mut out = [0xEE; 12296];
     let mut back = [whole(-7); 3073];
-    largest(&rt, &times, &mut out, &mut back)?;
-    for (old, new) in times.iter().zip(back.iter()) {
-        assert_eq!(rt; old.ticks, new.ticks);
-    }
-    assert_eq!(rt; back[3072].ticks, -7);
-    Ok(())
+    largest(&rt, whole(0), &mut times, &mut out, &mut back)
 }
 
 #[test]
 fn the_largest_fine_table(rt: HostRuntime) -> Result<(), Fail> {
     let mut times = [fine(1_000_000, 1_000); 3072];
-    fill_rows(fine(0, 0), &mut times);
     let mut out = [0xEE; 24584];
     let mut back = [fine(-7, 9); 3073];
-    largest(&rt, &times, &mut out, &mut back)?;
-    for (old, new) in times.iter().zip(back.iter()) {
-        assert!(rt; old.ticks == new.ticks && old.grains == new.grains);
-    }
-    assert_eq!(rt; back[3072].ticks, -7);
-    Ok(())
+    largest(&rt, fine(0, 0), &mut times, &mut out, &mut back)
 }

@@ -1,20 +1,7 @@
 // Times around zero, the ends of the range and the ends of their numbers.
-use fine::Fine;
+use crate::tools::{LEAST, MOST, fine, whole};
 use time_rules::{is_at_zero, is_bound, is_same, is_table_time};
 use times::{Ticks, Time};
-use whole::Whole;
-
-const MOST: i32 = i32::MAX;
-
-const LEAST: i32 = i32::MIN;
-
-fn fine(ticks: i32, grains: i32) -> Fine {
-    Fine { ticks, grains }
-}
-
-fn whole(ticks: i32) -> Whole {
-    Whole { ticks }
-}
 
 #[test]
 fn order(rt: HostRuntime) {
@@ -54,18 +41,15 @@ fn differences(rt: HostRuntime) {
     for (first, second, bound, within) in cases {
         assert_eq!(rt; first.is_within(second, bound), within);
     }
-    assert_eq!(rt; whole(LEAST).is_within(whole(MOST), whole(MOST)), false);
-    assert_eq!(rt; whole(MOST).is_within(whole(LEAST), whole(LEAST)), true);
-    assert_eq!(rt; whole(3).is_within(whole(8), whole(5)), true);
-    assert_eq!(rt; whole(3).is_within(whole(8), whole(4)), false);
+    assert!(rt; !whole(LEAST).is_within(whole(MOST), whole(MOST)));
+    assert!(rt; whole(MOST).is_within(whole(LEAST), whole(LEAST)));
+    assert!(rt; whole(3).is_within(whole(8), whole(5)));
+    assert!(rt; !whole(3).is_within(whole(8), whole(4)));
 }
 
 // So many ticks later, or `None`, as `ticks` is no count or the sum leaves the range.
 fn later<T: Time>(t: T, ticks: u32) -> Option<T> {
-    match Ticks::new(ticks) {
-        Some(count) => t.add_ticks(count),
-        None => None,
-    }
+    t.add_ticks(Ticks::new(ticks)?)
 }
 
 fn plain_sum(ticks: i32, more: u32) -> i64 {
@@ -152,9 +136,9 @@ fn bounds_and_table_times(rt: HostRuntime) {
         assert_eq!(rt; is_table_time(t), table);
         assert_eq!(rt; is_at_zero(t), zero);
     }
-    assert_eq!(rt; is_bound(whole(-1_000_000)), true);
-    assert_eq!(rt; is_bound(whole(-1_000_001)), false);
-    assert_eq!(rt; is_table_time(whole(-1)), false);
-    assert_eq!(rt; is_table_time(whole(1_000_000)), true);
-    assert_eq!(rt; is_at_zero(whole(0)), true);
+    assert!(rt; is_bound(whole(-1_000_000)));
+    assert!(rt; !is_bound(whole(-1_000_001)));
+    assert!(rt; !is_table_time(whole(-1)));
+    assert!(rt; is_table_time(whole(1_000_000)));
+    assert!(rt; is_at_zero(whole(0)));
 }

@@ -34,13 +34,13 @@ fn word(seen: bool) -> &'static str {
 
 impl fmt::Display for Seen {
     fn fmt<W: fmt::Write>(&self, f: &mut fmt::Formatter<W>) -> fmt::Result {
-        let prompt = word(self.prompt);
-        let rounds = word(self.rounds);
-        let late = word(self.late);
-        let late_rounds = word(self.late_rounds);
         write!(
             f,
-            "prompt {prompt}, rounds {rounds}, late {late}, late rounds {late_rounds}"
+            "prompt {}, rounds {}, late {}, late rounds {}",
+            word(self.prompt),
+            word(self.rounds),
+            word(self.late),
+            word(self.late_rounds)
         )
     }
 }
@@ -65,27 +65,17 @@ fn some_rules() -> Rules
     ensures late { result.late.ticks ≡ 3 }
     ensures both { (result.late_rounds.ticks ≡ 3) × (result.late_rounds.below.ticks ≡ 5) }
 {
-    let Ok(rounds) = Rounds::new(5) else {
-        unreachable()
-    };
-    let Ok(late) = Delay::new(3, Prompt::new()) else {
-        unreachable()
-    };
-    let Ok(late_rounds) = Delay::new(3, rounds) else {
-        unreachable()
-    };
+    let rounds = Rounds::new(5).unwrap();
     Rules {
         prompt: Prompt::new(),
         rounds,
-        late,
-        late_rounds,
+        late: Delay::new(3, Prompt::new()).unwrap(),
+        late_rounds: Delay::new(3, rounds).unwrap(),
     }
 }
 
-fn main(rt: HostRuntime) -> io::Result<()> {
-    let rules = some_rules();
-    println!(rt; "rounds: every 5 ticks; late: 3 ticks later")?;
-    for (taken, step) in [
+fn show_whole(rt: &HostRuntime, rules: &Rules) -> io::Result<()> {
+    let cases = [
         (4, 4),
         (4, 5),
         (5, 5),
@@ -94,30 +84,37 @@ fn main(rt: HostRuntime) -> io::Result<()> {
         (1, 5),
         (2, 5),
         (-3, -1),
-    ] {
-        let answer = ask(&rules, Whole { ticks: taken }, Whole { ticks: step });
+    ];
+    for (taken, step) in cases {
+        let answer = ask(rules, Whole { ticks: taken }, Whole { ticks: step });
         println!(rt; "taken {taken}, step {step}: {answer}")?;
     }
-    for (taken, grains, step, more) in [
+    Ok(())
+}
+
+fn fine(ticks: i32, grains: i32) -> Fine {
+    Fine { ticks, grains }
+}
+
+fn show_fine(rt: &HostRuntime, rules: &Rules) -> io::Result<()> {
+    let cases = [
         (5, -1, 5, 0),
         (5, 0, 5, 1),
         (5, 0, 10, -1),
         (2, -1, 5, 0),
         (2, 0, 5, 1),
         (0, 0, 0, -1),
-    ] {
-        let answer = ask(
-            &rules,
-            Fine {
-                ticks: taken,
-                grains,
-            },
-            Fine {
-                ticks: step,
-                grains: more,
-            },
-        );
+    ];
+    for (taken, grains, step, more) in cases {
+        let answer = ask(rules, fine(taken, grains), fine(step, more));
         println!(rt; "taken {taken}{grains:+}, step {step}{more:+}: {answer}")?;
     }
     Ok(())
+}
+
+fn main(rt: HostRuntime) -> io::Result<()> {
+    let rules = some_rules();
+    println!(rt; "rounds: every 5 ticks; late: 3 ticks later")?;
+    show_whole(&rt, &rules)?;
+    show_fine(&rt, &rules)
 }

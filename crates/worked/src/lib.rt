@@ -9,11 +9,5 @@ pub fn count_examples() -> usize
     ensures count { result ≡ length examples }
     ensures hold { ExamplesHold }
 {
-    count()
-}
-
-fn count() -> usize
-    ensures { result ≡ length examples }
-{
     12
 }

@@ -2,7 +2,7 @@
 // on the pair. What the line says is decided in the crate judge; here files are only read.
 #![tactic(auto)]
 
-use anyhow::anyhow;
+use anyhow::bail;
 use judge::interim::write_headers_line;
 use std::io::{ErrorKind, Read, Write};
 use std::{fs, io};
@@ -15,29 +15,22 @@ fn read_front(rt: &HostRuntime, path: &str) -> io::Result<Vec<u8>> {
     let mut bytes = Vec::new(rt.alloc());
     match fs::open(rt, path) {
         Ok(file) => {
-            let mut front = file.take(MOST);
-            front.read_to_end(&mut bytes)?;
+            file.take(MOST).read_to_end(&mut bytes)?;
         }
-        Err(error) => {
-            if error.kind() != ErrorKind::NotFound {
-                return Err(error);
-            }
-        }
+        Err(error) if error.kind() == ErrorKind::NotFound => {}
+        Err(error) => return Err(error),
     }
     Ok(bytes)
 }
 
-fn run(rt: &HostRuntime) -> anyhow::Result<()> {
-    let plan = read_front(rt, "plan.dpn")?;
-    let table = read_front(rt, "table.run")?;
-    let mut line = [0; 64];
-    match write_headers_line(plan.as_slice(), table.as_slice(), &mut line) {
-        Ok(length) => rt.stdout().write_all(&line[0..length])?,
-        Err(_) => return Err(anyhow!("no room for the line")),
-    }
-    Ok(())
-}
-
 fn main(rt: HostRuntime) -> anyhow::Result<()> {
-    run(&rt)
+    let plan = read_front(&rt, "plan.dpn")?;
+    let table = read_front(&rt, "table.run")?;
+    // An array with a length: the call writes into memory that is lent to it.
+    let mut line = [0; 64];
+    let Ok(length) = write_headers_line(&plan, &table, &mut line) else {
+        bail!("no room for the line");
+    };
+    rt.stdout().write_all(&line[0..length])?;
+    Ok(())
 }
