@@ -1,17 +1,16 @@
 -- A header from its parts: mark and version, then counts, then figures.
-use Rattle.std.proofs.Common.{◌≡◌, ℕ, ◌+◌, ◌≤◌, true, Err, List, [], ◌++◌, sym, ap, ◌∙◌, subst, arith}
+use Rattle.std.proofs.Common.{◌≡◌, ℕ, ◌+◌, true, List, [], ◌++◌, sym, ap, ◌∙◌, subst, arith}
 use Rattle.refusals.specs.Answers.{Answer, given, refused}
 use Rattle.refusals.specs.declared.Refusal.{Refusal}
 use Rattle.std.proofs.lemmas.Bool.Decides.{nat_tests}
 use Rattle.fields.specs.Fields.{between}
 use Rattle.fields.proofs.Readings.{kept_checked}
-use Rattle.times.specs.Coding.{VersionNames, version_of}
-use Rattle.times.specs.declared.codings.UnknownVersion.{UnknownVersion}
+use Rattle.times.specs.Coding.{version_of}
 use Rattle.times.specs.declared.codings.Kind.{Kind}
 use Rattle.times.specs.declared.codings.Kind.TheVariants.{Whole, Fine}
 use Rattle.files.specs.declared.headers.PlanHeader.{PlanHeader}
 use Rattle.fields.specs.Fields.{Field, number_at, checked}
-use Rattle.files.specs.Headers.{kind_at, table_mark, plan_mark, start, plan_starts, plan_start, plan_starts_of, plan_header_of, table_starts, count_fields, counts_in, figure_fields, figures_in, same_count_fields, header_in, plan_header, table_header}
+use Rattle.files.specs.Headers.{kind_at, table_mark, plan_mark, start, start_of, plan_starts, plan_starts_of, plan_header_of, table_starts, count_fields, counts_in, figure_fields, figures_in, same_count_fields, header_in, plan_header, table_header}
 use Rattle.fields.proofs.Chains.{onward, halted, judged}
 
 abbrev assembled : Kind → (ℕ × ℕ × ℕ) → (ℕ × ℕ) → PlanHeader
@@ -23,10 +22,10 @@ begin file = (kind_at (number_at file 3 2), 5)
 abbrev rest : List Field
 rest = count_fields 5 ++ figure_fields 9
 
-pub start_stops : (file : List ℕ) (r : Refusal) → refused r ≡ plan_start file → refused r ≡ plan_header file
+pub start_stops : (file : List ℕ) (r : Refusal) → refused r ≡ start file plan_mark → refused r ≡ plan_header file
 start_stops file r e = halted file plan_starts rest (begin file) (header_in file) r e
 
-module _ (file : List ℕ) (s : Kind × ℕ) (e : given s ≡ plan_start file) where
+module _ (file : List ℕ) (s : Kind × ℕ) (e : given s ≡ start file plan_mark) where
   begun : (s ≡ begin file) × (plan_header file ≡ checked file rest (header_in file))
   begun = onward file plan_starts rest (begin file) s (header_in file) e
 
@@ -58,20 +57,13 @@ module _ (file : List ℕ) (s : Kind × ℕ) (e : given s ≡ plan_start file) w
         ap given same ∙ sym done.1 ∙ sym counted.1 ∙ sym begun.1
 
 module _ (file : List ℕ) (plan : PlanHeader) where
-  abbrev number : ℕ
-  number = version_of plan.version
+  pub table_stops : (r : Refusal) → refused r ≡ start_of file table_mark plan.version → refused r ≡ table_header file plan
+  table_stops r e = halted file (table_starts plan.version) (same_count_fields plan 5) 5 tt r e
 
-  pub table_stops : (r : Refusal) → refused r ≡ start file table_mark number number → refused r ≡ table_header file plan
-  table_stops r e = halted file (table_starts plan.version) (same_count_fields plan 5) (number_at file 3 2, 5) tt r e
-
-  pub table_ends : (p : ℕ × ℕ) (a : Answer (Unit {0})) → given p ≡ start file table_mark number number → a ≡ checked file (same_count_fields plan p.1) tt → a ≡ table_header file plan
-  table_ends p a e h =
-      let begun = onward file (table_starts plan.version) (same_count_fields plan 5) (number_at file 3 2, 5) p tt e in
-      subst (λ (s : ℕ × ℕ). a ≡ checked file (same_count_fields plan s.1) tt) begun.0 h ∙ sym begun.1
-
--- a number from 1 to 2 names a kind
-pub kind_named : (n : ℕ) (e : UnknownVersion) → 1 ≤ n → n ≤ 2 → VersionNames n (Err e) → ⊥
-kind_named n e low high h = h.1 Fine (omega (arith, h.1 Whole))
+  pub table_ends : (at : ℕ) (a : Answer (Unit {0})) → given at ≡ start_of file table_mark plan.version → a ≡ checked file (same_count_fields plan at) tt → a ≡ table_header file plan
+  table_ends at a e h =
+      let begun = onward file (table_starts plan.version) (same_count_fields plan 5) 5 at tt e in
+      subst (λ at. a ≡ checked file (same_count_fields plan at) tt) begun.0 h ∙ sym begun.1
 
 -- the same of one kind
 
@@ -80,13 +72,13 @@ version_known Whole n h = grind (arith, nat_tests)
 version_known Fine n h = grind (arith, nat_tests)
 
 module _ (file : List ℕ) (kind : Kind) where
-  pub start_of_stops : (r : Refusal) → refused r ≡ start file plan_mark (version_of kind) (version_of kind) → refused r ≡ plan_header_of file kind
-  start_of_stops r e = halted file (plan_starts_of kind) rest (number_at file 3 2, 5) (header_in file) r e
+  pub start_of_stops : (r : Refusal) → refused r ≡ start_of file plan_mark kind → refused r ≡ plan_header_of file kind
+  start_of_stops r e = halted file (plan_starts_of kind) rest 5 (header_in file) r e
 
   -- a header whose mark and version pass as those of the kind pass as those of any
-  pub as_any : (p : ℕ × ℕ) → given p ≡ start file plan_mark (version_of kind) (version_of kind) → plan_header file ≡ plan_header_of file kind
-  as_any p e =
-      let begun = onward file (plan_starts_of kind) rest (number_at file 3 2, 5) p (header_in file) e in
-      let kept = judged file (plan_starts_of kind) (number_at file 3 2, 5) (given p) e in
+  pub as_any : (at : ℕ) → given at ≡ start_of file plan_mark kind → plan_header file ≡ plan_header_of file kind
+  as_any at e =
+      let begun = onward file (plan_starts_of kind) rest 5 at (header_in file) e in
+      let kept = judged file (plan_starts_of kind) 5 (given at) e in
       let any = kept_checked file plan_starts (begin file) (kept.0, (record { there = kept.1.0.there; kept = version_known kind _ kept.1.0.kept }, tt)) in
       (onward file plan_starts rest (begin file) (begin file) (header_in file) (sym any)).1 ∙ sym begun.1

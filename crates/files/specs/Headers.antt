@@ -28,12 +28,17 @@ plan_mark = 0x44504E
 abbrev pub table_mark : ℕ
 table_mark = 0x52554E
 
--- a mark and a version from least to most, and then the place after them
+-- a mark and a version from least to most
 abbrev pub start_fields : ℕ → ℕ → ℕ → List Field
 start_fields mark least most = mark_field mark ∷ version_field least most ∷ []
 
-abbrev pub start : List ℕ → ℕ → ℕ → ℕ → Answer (ℕ × ℕ)
-start file mark least most = checked file (start_fields mark least most) (number_at file 3 2, 5)
+-- the kind of a file, and the place after its version
+abbrev pub start : List ℕ → ℕ → Answer (Kind × ℕ)
+start file mark = checked file (start_fields mark 1 2) (kind_at (number_at file 3 2), 5)
+
+-- the place after the version of a file of one kind
+abbrev pub start_of : List ℕ → ℕ → Kind → Answer ℕ
+start_of file mark kind = checked file (start_fields mark (version_of kind) (version_of kind)) 5
 
 abbrev pub plan_starts : List Field
 plan_starts = start_fields plan_mark 1 2
@@ -44,9 +49,6 @@ plan_starts_of kind = start_fields plan_mark (version_of kind) (version_of kind)
 
 abbrev pub table_starts : Kind → List Field
 table_starts kind = start_fields table_mark (version_of kind) (version_of kind)
-
-abbrev pub plan_start : List ℕ → Answer (Kind × ℕ)
-plan_start file = checked file plan_starts (kind_at (number_at file 3 2), 5)
 
 -- the numbers of points, tests and limits, from a place on
 abbrev pub count_fields : ℕ → List Field

@@ -1,8 +1,8 @@
 // The headers of both files.
-ghost use Rattle.std.specs.Prelude.{◌≡◌, ◌≤◌, IfOk};
+ghost use Rattle.std.specs.Prelude.{◌≡◌};
 ghost use Rattle.refusals.specs.Answers.{answer_of};
 ghost use Rattle.fields.specs.Fields.{field_answer, checked, count_field, figure_field, JudgedFields};
-ghost use Rattle.files.specs.Headers.{header_refusal, start, plan_start, count_fields, counts_in, figure_fields, figures_in, same_count_fields, plan_fields, plan_fields_of, plan_header, plan_header_of, table_fields, table_header};
+ghost use Rattle.files.specs.Headers.{header_refusal, start, start_of, count_fields, counts_in, figure_fields, figures_in, same_count_fields, plan_fields, plan_fields_of, plan_header, plan_header_of, table_fields, table_header};
 
 use refusals::Refusal;
 use times::{Kind, bytes_at};
@@ -51,10 +51,9 @@ impl From<HeaderFault> for Refusal {
     }
 }
 
-// The version of a file with a mark, which is from least to most, and the place after it.
-fn start(file: &[u8], mark: u32, least: u16, most: u16) -> Result<(u16, usize), HeaderFault>
-    ensures answer { answer_of (λ p. p) header_refusal result ≡ start file.now mark least most }
-    ensures within { IfOk result (λ p. (least ≤ p.0) × (p.0 ≤ most)) }
+// The kind of a file with a mark, and the place after its version.
+fn start(file: &[u8], mark: u32) -> Result<(Kind, usize), HeaderFault>
+    ensures { answer_of (λ p. p) header_refusal result ≡ start file.now mark }
 {
     let [a, b, c, rest @ ..] = file else {
         return Err(HeaderFault::Ended(file.len()));
@@ -65,22 +64,21 @@ fn start(file: &[u8], mark: u32, least: u16, most: u16) -> Result<(u16, usize), 
     let [high, low, rest @ ..] = rest else {
         return Err(HeaderFault::Ended(file.len()));
     };
-    let version = u16::from_be_bytes([*high, *low]);
-    if version < least || version > most {
+    let Ok(kind) = Kind::try_from(u16::from_be_bytes([*high, *low])) else {
         return Err(HeaderFault::Version);
-    }
-    Ok((version, file.len() - rest.len()))
+    };
+    Ok((kind, file.len() - rest.len()))
 }
 
-// The kind of a plan file, and the place after its version.
-fn plan_start(file: &[u8]) -> Result<(Kind, usize), HeaderFault>
-    ensures { answer_of (λ p. p) header_refusal result ≡ plan_start file.now }
+// The place after the version of a file of one kind.
+fn start_of(file: &[u8], mark: u32, kind: Kind) -> Result<usize, HeaderFault>
+    ensures { answer_of (λ p. p) header_refusal result ≡ start_of file.now mark kind }
 {
-    let (version, place) = start(file, PLAN_MARK, 1, 2)?;
-    let Ok(kind) = Kind::try_from(version) else {
-        unreachable()
-    };
-    Ok((kind, place))
+    let (found, place) = start(file, mark)?;
+    if found != kind {
+        return Err(HeaderFault::Version);
+    }
+    Ok(place)
 }
 
 // The readers below take the file and a place, and no struct that moves along: its place before and after each field
@@ -145,7 +143,7 @@ pub fn read_plan_header(file: &[u8]) -> Result<PlanHeader, HeaderFault>
     ensures answer { answer_of (λ h. h) header_refusal result ≡ plan_header file.now }
     ensures first { JudgedFields file.now plan_fields (answer_of (λ h. h) header_refusal result) }
 {
-    let (version, place) = plan_start(file)?;
+    let (version, place) = start(file, PLAN_MARK)?;
     let (points, tests, limits) = counts_at(file, place)?;
     let (round, delay) = figures_at(file, place + 4)?;
     Ok(PlanHeader {
@@ -163,8 +161,7 @@ pub fn read_plan_header_of(file: &[u8], version: Kind) -> Result<PlanHeader, Hea
     ensures answer { answer_of (λ h. h) header_refusal result ≡ plan_header_of file.now version }
     ensures first { JudgedFields file.now (plan_fields_of version) (answer_of (λ h. h) header_refusal result) }
 {
-    let number = version.version();
-    let _ = start(file, PLAN_MARK, number, number)?;
+    let _ = start_of(file, PLAN_MARK, version)?;
     read_plan_header(file)
 }
 
@@ -182,7 +179,6 @@ pub fn check_table_header(file: &[u8], plan: &PlanHeader) -> Result<(), HeaderFa
     ensures answer { answer_of (λ u. u) header_refusal result ≡ table_header file.now plan.now }
     ensures first { JudgedFields file.now (table_fields plan.now) (answer_of (λ u. u) header_refusal result) }
 {
-    let number = plan.version.version();
-    let (_, place) = start(file, TABLE_MARK, number, number)?;
+    let place = start_of(file, TABLE_MARK, plan.version)?;
     check_counts_at(file, place, plan)
 }

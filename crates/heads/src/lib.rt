@@ -14,8 +14,8 @@ pub use makers::is_test;
 // The number of points, the point of each test, and the figures of the plan's reaction rule: the
 // ticks of a round, 0 for none, and of a delay. Letter i is the outcome of test i. Every head keeps
 // the rules of its ghost fields, so no call has to check one.
-// Its tests stand in an array of its own with their number beside it: there is no heap, and a head borrows nothing.
-#[derive(Clone, Copy)]
+// Its tests stand in an array of its own with their number beside it: there is no heap, and a head is copied.
+#[derive(Clone, Copy, PartialEq, Eq, Debug)]
 pub struct Head {
     points: u8,
     letters: u8,

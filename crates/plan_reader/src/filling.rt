@@ -24,6 +24,7 @@ pub(crate) fn head_at(file: &[u8], header: &PlanHeader, at: usize) -> Head
 }
 
 // Stores the first so many limits of a file, which lie one after the other from a place on.
+// One function for all that fill an array would be public, and a public call has no `requires`.
 pub(crate) fn fill_limits<T: Time>(file: &[u8], at: usize, count: usize, limits: &mut [Limit<T>])
     requires { (count ≤ 65535) × ((count ≤ length limits.old) × (at + (4 + width_of T.Time.kind) * count ≤ length file.now)) }
     ensures front { map (limit_of T.Time.moment) (take count limits.new) ≡ laid count (λ j. limit_in T.Time.kind file.now (at + (4 + width_of T.Time.kind) * j) ∷ []) }

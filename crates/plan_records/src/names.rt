@@ -85,9 +85,8 @@ impl NameAt<'_> {
     fn length(&self) -> Result<u8, RecordFault>
         ensures { answer_of (λ x. x) record_refusal result ≡ field_answer self.now.bytes.now (length_field self.now.bytes.now self.now.at) }
     {
-        let Some(&length) = self.bytes.get(self.at) else {
-            return Err(RecordFault::Ended(self.bytes.len()));
-        };
+        let ended = RecordFault::Ended(self.bytes.len());
+        let length = *self.bytes.get(self.at).ok_or(ended)?;
         if !(1..=16).contains(&length) {
             return Err(RecordFault::Name(self.at));
         }

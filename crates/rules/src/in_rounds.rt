@@ -23,26 +23,26 @@ impl Rule for Rounds {
     ghost afterwards = { λ x. rounds_afterwards x.ticks };
 
     fn is_seen<T: Time>(&self, _test: u8, taken: T, at: T) -> bool {
-        is_before_round(self.ticks, taken, at)
+        self.is_before_round(taken, at)
     }
 }
 
-// Is an outcome taken before the round of a step?
-fn is_before_round<T: Time>(every: u32, taken: T, at: T) -> bool
-    requires { 1 ≤ every }
-    ensures { result ≡ by_round every (T.Time.moment taken) (last_tick (T.Time.moment at)) }
-{
-    is_tick_before_round(every, taken.last_tick(), at.last_tick())
-}
-
-// With `last` the last whole tick of a step: is `taken` before the largest multiple of `every` up to it?
-fn is_tick_before_round(every: u32, taken: i64, last: i64) -> bool
-    requires { 1 ≤ every }
-    ensures { result ≡ by_tick every taken last }
-{
-    if last < 0 {
-        return false;
+impl Rounds {
+    // Is an outcome taken before the round of a step?
+    fn is_before_round<T: Time>(&self, taken: T, at: T) -> bool
+        ensures { result ≡ by_round self.now.ticks (T.Time.moment taken) (last_tick (T.Time.moment at)) }
+    {
+        self.is_tick_before_round(taken.last_tick(), at.last_tick())
     }
-    let every = i64::from(every);
-    taken < last / every * every
+
+    // With `last` the last whole tick of a step: is `taken` before the largest multiple of the round up to it?
+    fn is_tick_before_round(&self, taken: i64, last: i64) -> bool
+        ensures { result ≡ by_tick self.now.ticks taken last }
+    {
+        if last < 0 {
+            return false;
+        }
+        let every = i64::from(self.ticks);
+        taken < last / every * every
+    }
 }

@@ -9,6 +9,7 @@ use times::{Ticks, Time};
 // What the rule below sees of an outcome that is taken so many ticks later.
 #[derive(Drop)]
 pub struct Delay<R> {
+    // a number, and no `Ticks`: public clauses name it as one
     pub(crate) ticks: u32,
     pub(crate) below: R,
     ghost bounded: { ticks ≤ 1000000 },

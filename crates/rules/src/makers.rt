@@ -77,8 +77,7 @@ fn base_rule(r: u32) -> Result<BaseRule, RuleFault>
     if r == 0 {
         return Ok(BaseRule::Prompt(Prompt::new()));
     }
-    let rule = Rounds::new(r)?;
-    Ok(BaseRule::Rounds(rule))
+    Rounds::new(r).map(BaseRule::Rounds)
 }
 
 // The rule that two numbers name: a delay of `d` ticks over the rule that `r` names.

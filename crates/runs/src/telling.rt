@@ -16,7 +16,7 @@ impl Run {
         ensures back { IfErr result (λ b. b.token ≡ token) }
         ensures says { TellSays self.old token (answer_of (λ u. u) tell_refusal result) }
     {
-        if !self.is_tellable(token.run, token.letter) {
+        if !self.is_tellable(&token) {
             return Err(HandedBack { token });
         }
         self.keep(token.letter, outcome);
@@ -24,11 +24,11 @@ impl Run {
         Ok(())
     }
 
-    fn is_tellable(&self, run: u32, letter: u8) -> bool
-        ensures value { result ≡ may_tell self.now (record { run = run; letter = letter; spent = true }) }
-        ensures inside { result ≡ true → letter < 64 }
+    fn is_tellable(&self, token: &Token) -> bool
+        ensures value { result ≡ may_tell self.now token.now }
+        ensures inside { result ≡ true → token.now.letter < 64 }
     {
-        run == self.number && self.out.has(letter) && !self.told.has(letter)
+        token.run == self.number && self.out.has(token.letter) && !self.told.has(token.letter)
     }
 
     fn keep(&mut self, letter: u8, outcome: bool)

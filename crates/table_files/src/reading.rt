@@ -100,6 +100,7 @@ fn check_rule<T: Time>(point: u8, place: usize, time: T) -> Result<(), TimeFault
 }
 
 // Stores the first so many times of a file.
+// One function for all that fill an array would be public, and a public call has no `requires`.
 fn fill_times<T: Time>(file: &[u8], size: usize, times: &mut [T])
     requires { (size < 2 ^ 32) × ((size ≤ length times.old) × (time_place T.Time.kind size ≤ length file.now)) }
     ensures front { map T.Time.moment (take size times.new) ≡ times_in T.Time.kind file.now size }

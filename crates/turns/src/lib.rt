@@ -15,6 +15,8 @@ use rules::Rule;
 use sets::Set;
 use times::Time;
 
+// Each call takes what it asks about one by one: its promise names just that.
+
 // The lowest row with all outcomes told.
 pub fn lowest_row<T: Time>(told: Set, outcomes: Set, pair: &Pair<T>) -> Option<u8>
     ensures { result ≡ lowest (plan_in T.Time.moment pair.now) told outcomes }

@@ -24,7 +24,8 @@ pub fn judge<T: Time, R: Rule>(pair: &Pair<T>, rule: &R) -> Result<(), PairFault
     answer(find_offence(pair, rule))
 }
 
-// A pair with no offence is accepted, and an offence speaks against it.
+// A pair with no offence is accepted, and an offence speaks against it: an offence is what a search finds, and only here
+// a fault.
 fn answer(found: Option<Offence>) -> Result<(), PairFault>
     ensures { answer_of (λ u. u) pair_refusal result ≡ unless (option_map offence_refusal found) tt }
 {
