@@ -7,7 +7,6 @@ use fine::Fine;
 use heads::Head;
 use plans::{Limit, Pair};
 use refusals::Refusal;
-use rules::{BaseRule, Delay};
 use std::fmt;
 use time_rules::whole_ticks;
 use times::Time;

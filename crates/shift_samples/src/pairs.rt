@@ -4,6 +4,7 @@ use heads::Head;
 use offences::Offence;
 use plans::{Limit, Pair};
 use rules::{Prompt, Rounds, Rule};
+use shifts::shift;
 use std::process::Abort;
 use std::test::Fail;
 use verdicts::{PairFault, judge};
@@ -45,22 +46,17 @@ fn stays<R: Rule>(
     new: [i32; 9],
     answer: Result<(), PairFault>,
 ) -> Result<(), Fail> {
-    let head = head(3, &[1], round, delay)?;
-    let [a, b, c, d, e, f] = old;
-    let table = [whole(a), whole(b), whole(c), whole(d), whole(e), whole(f)];
-    let pair = Pair {
-        head: &head,
-        limits: &[],
-        times: &table,
-    };
+    let head = Head::new(3, &[1], round, delay)?;
+    let table = old.map(whole);
+    let pair = pair_of(&head, &table);
     let mut limits = [blank(); 3];
     let mut times = [whole(-7); 9];
-    let moved = shifted(&pair, &mut limits, &mut times)?;
+    let moved = shift(&pair, &mut limits, &mut times)?;
     is_outlined(rt, &moved, 4, 3, round);
     is_limit(rt, &limits[0], 1, 3, bounds.0);
     is_limit(rt, &limits[1], 3, 1, bounds.1);
     are_blank(rt, &limits[2..3]);
-    are_ticks(rt, &times, &new);
+    assert_eq!(rt; times, new.map(whole));
     says(rt, &head, &[], &table, &head.rule(), answer);
     says(
         rt,
@@ -101,9 +97,7 @@ fn delayed_prompt_examples(rt: HostRuntime) -> Result<(), Fail> {
 
 #[test]
 fn delayed_round_examples(rt: HostRuntime) -> Result<(), Fail> {
-    let Ok(rounds) = Rounds::new(5) else {
-        return Err(Fail::new("no rounds"));
-    };
+    let rounds = Rounds::new(5)?;
     stays(
         &rt,
         5,
@@ -155,9 +149,9 @@ fn no_delay(rt: HostRuntime) -> Result<(), Fail> {
 // With no test nothing is added.
 #[test]
 fn no_test(rt: HostRuntime) -> Result<(), Fail> {
-    let head = head(2, &[], 5, 3)?;
+    let head = Head::new(2, &[], 5, 3)?;
     let old = [limit(0, 1, whole(4))];
-    let table = [whole(0), whole(4)];
+    let table = [0, 4].map(whole);
     let pair = Pair {
         head: &head,
         limits: &old,
@@ -165,34 +159,21 @@ fn no_test(rt: HostRuntime) -> Result<(), Fail> {
     };
     let mut limits = [blank(); 2];
     let mut times = [whole(-7); 3];
-    let moved = shifted(&pair, &mut limits, &mut times)?;
+    let moved = shift(&pair, &mut limits, &mut times)?;
     assert_eq!(rt; (moved.points(), moved.letters()), (2, 0));
     assert_eq!(rt; (moved.round(), moved.delay()), (5, 0));
     is_limit(&rt, &limits[0], 0, 1, 4);
     are_blank(&rt, &limits[1..2]);
-    are_ticks(&rt, &times, &[0, 4, -7]);
+    assert_eq!(rt; times, [0, 4, -7].map(whole));
     Ok(())
 }
 
 // Two tests and an old limit: test by test, and row by row.
 #[test]
 fn two_tests(rt: HostRuntime) -> Result<(), Fail> {
-    let head = head(3, &[2, 1], 0, 10)?;
+    let head = Head::new(3, &[2, 1], 0, 10)?;
     let old = [limit(0, 1, whole(4))];
-    let table = [
-        whole(0),
-        whole(1),
-        whole(2),
-        whole(0),
-        whole(1),
-        whole(3),
-        whole(0),
-        whole(4),
-        whole(2),
-        whole(0),
-        whole(4),
-        whole(3),
-    ];
+    let table = [0, 1, 2, 0, 1, 3, 0, 4, 2, 0, 4, 3].map(whole);
     let pair = Pair {
         head: &head,
         limits: &old,
@@ -200,7 +181,7 @@ fn two_tests(rt: HostRuntime) -> Result<(), Fail> {
     };
     let mut limits = [blank(); 5];
     let mut times = [whole(-7); 20];
-    let moved = shifted(&pair, &mut limits, &mut times)?;
+    let moved = shift(&pair, &mut limits, &mut times)?;
     assert_eq!(rt; (moved.points(), moved.letters()), (5, 2));
     assert_eq!(rt; (moved.point(0), moved.point(1), moved.delay()), (3, 4, 0));
     is_limit(&rt, &limits[0], 0, 1, 4);
@@ -208,12 +189,9 @@ fn two_tests(rt: HostRuntime) -> Result<(), Fail> {
     is_limit(&rt, &limits[2], 3, 2, -10);
     is_limit(&rt, &limits[3], 1, 4, 10);
     is_limit(&rt, &limits[4], 4, 1, -10);
-    are_ticks(
-        &rt,
-        &times,
-        &[
-            0, 1, 2, 12, 11, 0, 1, 3, 13, 11, 0, 4, 2, 12, 14, 0, 4, 3, 13, 14,
-        ],
-    );
+    let after = [
+        0, 1, 2, 12, 11, 0, 1, 3, 13, 11, 0, 4, 2, 12, 14, 0, 4, 3, 13, 14,
+    ];
+    assert_eq!(rt; times, after.map(whole));
     Ok(())
 }

@@ -5,16 +5,8 @@ use plans::{Limit, Pair};
 use refusals::Refusal;
 use shifts::shift;
 use std::process::Abort;
-use std::test::Fail;
 use times::Time;
 use whole::Whole;
-
-pub fn head(points: u8, tests: &[u8], round: u32, delay: u32) -> Result<Head, Fail> {
-    match Head::new(points, tests, round, delay) {
-        Ok(head) => Ok(head),
-        Err(_) => Err(Fail::new("no head")),
-    }
-}
 
 pub fn whole(ticks: i32) -> Whole {
     Whole { ticks }
@@ -31,6 +23,15 @@ pub fn limit<T: Time>(from: u8, to: u8, bound: T) -> Limit<T> {
         wanted: 0,
         unwanted: 0,
         bound,
+    }
+}
+
+// A pair with no limits.
+pub fn pair_of<'a, T>(head: &'a Head, times: &'a [T]) -> Pair<'a, T> {
+    Pair {
+        head,
+        limits: &[],
+        times,
     }
 }
 
@@ -59,25 +60,6 @@ pub fn are_blank(rt: &impl Abort, limits: &[Limit<Whole>]) {
     }
 }
 
-pub fn are_ticks(rt: &impl Abort, times: &[Whole], ticks: &[i32]) {
-    assert_eq!(rt; times.len(), ticks.len());
-    for (time, tick) in times.iter().zip(ticks.iter()) {
-        assert_eq!(rt; time.ticks, *tick);
-    }
-}
-
-// The head of what is shifted.
-pub fn shifted<T: Time>(
-    pair: &Pair<T>,
-    limits: &mut [Limit<T>],
-    times: &mut [T],
-) -> Result<Head, Fail> {
-    match shift(pair, limits, times) {
-        Ok(head) => Ok(head),
-        Err(_) => Err(Fail::new("not shifted")),
-    }
-}
-
 // The refusal with a number and a place.
 pub fn refused<T: Time>(
     rt: &impl Abort,
@@ -86,22 +68,9 @@ pub fn refused<T: Time>(
     times: &mut [T],
     number: u16,
     place: usize,
-) -> Result<(), Fail> {
-    match shift(pair, limits, times) {
-        Ok(_) => Err(Fail::new("shifted")),
-        Err(fault) => {
-            assert_eq!(rt;
-                Refusal::from(fault),
-                Refusal {
-                    number,
-                    first: place,
-                    second: 0,
-                    third: 0,
-                }
-            );
-            Ok(())
-        },
-    }
+) {
+    let refusal = shift(pair, limits, times).err().map(Refusal::from);
+    assert_eq!(rt; refusal, Some(Refusal::at(number, place)));
 }
 
 // The outline of a head with one test.
