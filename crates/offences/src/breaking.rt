@@ -12,6 +12,7 @@ use plans::{Limit, Pair};
 use times::Time;
 
 // The first limit offence, by row and then by limit.
+// An `Option`, here and in all searches: an offence is what is looked for, and no fault of the call.
 pub fn find_break<T: Time>(pair: &Pair<T>) -> Option<Offence>
     ensures { option_map offence_refusal result ≡ first_break (plan_in T.Time.moment pair.now) (table_in T.Time.moment pair.now) }
 {

@@ -39,6 +39,7 @@ impl Run {
             return Err(ReleaseFault::OtherPlan);
         }
         let turn = next_turn(self, pair).ok_or(ReleaseFault::NoneLeft)?;
+        // a letter is what the search finds, and only here a fault
         match find_wait(self.out, self.told, pair, rule, turn.row, turn.point) {
             Some(letter) => Err(ReleaseFault::Waits(letter)),
             None => Ok(turn),

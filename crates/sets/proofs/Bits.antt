@@ -2,7 +2,7 @@
 use Rattle.std.proofs.Common.{◌≡◌, ℕ, suc, ◌+◌, ◌-◌, ◌*◌, ◌/◌, ◌%◌, ◌^◌, ◌<◌, ◌≤◌, Bool, true, false, cond, ◌||◌, eqb, ltb, ◌⊎◌, sym, refl, ap, ◌∙◌, subst, inl, inr, div-lt_iff_lt-mul, pow-suc, arith, pow_mono}
 use native.Mathlib.Nat.{zero-div, add-div_right, add-mul-div_right, add-mul-mod_self_right, div-eq_of_lt}
 use Rattle.std.proofs.lemmas.Nat.{pow_pos, pow-add, shr-shr, one_shl, mod-pow-add, field_of}
-use Rattle.std.proofs.lemmas.Bool.{cases_order, cases_eq, cases_Bool, both_ways, eq-eqb, ne_eqb, eqb-false, or_left, or_right, cond_both, cond-false, le-ltb}
+use Rattle.std.proofs.lemmas.Bool.{cases_order, cases_eq, cases_Bool, both_ways, eq-eqb, ne_eqb, eqb-false, or_left, or_right, cond_both, le-ltb}
 use Rattle.sets.specs.Sets.{has, joined}
 
 pub none_holds : (i : ℕ) → has 0 i ≡ false
