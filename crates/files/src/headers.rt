@@ -8,9 +8,12 @@ use refusals::Refusal;
 use times::{Kind, bytes_at};
 
 // The first bytes of a plan file and of a table file, as numbers.
-const PLAN_MARK: u32 = 0x44504E;
+pub const PLAN_MARK: u32 = 0x44504E;
 
-const TABLE_MARK: u32 = 0x52554E;
+pub const TABLE_MARK: u32 = 0x52554E;
+
+// How many bytes the header of a plan file takes.
+pub const PLAN_HEADER_LENGTH: usize = 17;
 
 // What a plan file says before its names: the version, the numbers of points, tests and limits,
 // and the figures r and d of its reaction rule.
@@ -82,7 +85,8 @@ fn start_of(file: &[u8], mark: u32, kind: Kind) -> Result<usize, HeaderFault>
 }
 
 // The readers below take the file and a place, and no struct that moves along: its place before and after each field
-// would stand in every contract.
+// would stand in every contract. Each number is read by the type of its width: one reader for all three would take
+// the width, the bounds and the fault, and be no plainer.
 
 // A count of one byte, from least to most.
 fn count_at(file: &[u8], at: usize, least: u8, most: u8) -> Result<u8, HeaderFault>

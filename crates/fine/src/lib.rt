@@ -14,7 +14,7 @@ pub struct Fine {
     pub grains: i32,
 }
 
-// Ticks and grains, with room for the difference of any two times.
+// Ticks and grains, with room for the difference of any two times. A struct, since the order of tuples does not prove.
 #[derive(Clone, Copy, PartialEq, Eq, PartialOrd, Ord)]
 struct Pair {
     ticks: i64,
@@ -59,7 +59,7 @@ impl Time for Fine {
     fn add_ticks(self, ticks: Ticks) -> Option<Fine> {
         let ticks = ticks.after(self.ticks)?;
         let grains = self.grains;
-        if grains < -1_000_000 || grains > 1_000_000 {
+        if !(-1_000_000..=1_000_000).contains(&grains) {
             return None;
         }
         Some(Fine { ticks, grains })

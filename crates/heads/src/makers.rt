@@ -38,7 +38,7 @@ impl Head {
     }
 }
 
-// The counts, then the figures, then the tests.
+// The counts, then the figures, then the tests. Points and tests go along one by one, as the public `is_test` takes them.
 fn check_numbers(points: u8, tests: &[u8], round: u32, delay: u32) -> Result<(), HeadFault>
     ensures { answer_of (λ u. u) head_fault result ≡ unless (head_refusal (outline points tests.now round delay)) tt }
 {

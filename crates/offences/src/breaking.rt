@@ -29,6 +29,7 @@ fn break_in<T: Time>(pair: &Pair<T>, row: u8) -> Option<Offence>
 }
 
 // Whether a limit applies in a row and is not kept there.
+// Pair and row go along one by one: a struct of both would be made anew for each row, and be no plainer.
 fn does_break<T: Time>(pair: &Pair<T>, row: u8, limit: Limit<T>) -> bool
     ensures { result ≡ breaks_limit (plan_in T.Time.moment pair.now) (table_in T.Time.moment pair.now) row (limit_of T.Time.moment limit) }
 {

@@ -29,7 +29,7 @@ module _ (kind : Kind) (file : List ℕ) (room : ℕ) where
   answer_says a e =
       subst (PlanSays kind file room) (sym e) (count_says (read_plan kind file room) (read_says file (plan_fields_of kind) (body_fields file) (header file).limits room (contents_in file kind)))
 
-  module _ (whole : Whole kind file room) (h : PlanHeader) (there : h ≡ header file) (width count : ℕ) (wide : width ≡ width_of kind) (counted : count ≡ h.limits) where
+  module _ (whole : Whole kind file room) (h : PlanHeader) (there : h ≡ header file) (width count : ℕ) (wide : width ≡ 4 + width_of kind) (counted : count ≡ h.limits) where
     abbrev at : ℕ
     at = tests_place (header file) file
 
@@ -39,20 +39,20 @@ module _ (kind : Kind) (file : List ℕ) (room : ℕ) where
     tested_there : h.tests ≡ (header file).tests
     tested_there = ap (λ h. h.tests) there
 
-    size : (4 + width) * count ≡ (4 + width_of kind) * (header file).limits
-    size = ap (λ w. (4 + w) * count) wide ∙ ap (λ n. (4 + width_of kind) * n) counted_there
+    size : width * count ≡ (4 + width_of kind) * (header file).limits
+    size = ap (λ w. w * count) wide ∙ ap (λ n. (4 + width_of kind) * n) counted_there
 
     pub few : count ≤ 256
     few =
         let kept = whole.header_kept.1.1.1.1.0.kept in
         omega (arith, counted_there, (within 0 256 (header file).limits kept).1)
 
-    pub small : (4 + width) * count ≤ 3072
+    pub small : width * count ≤ 3072
     small =
-        let narrow : 4 + width ≤ 12 = omega (arith, wide, width_small kind) in
+        let narrow : width ≤ 12 = omega (arith, wide, width_small kind) in
         omega (arith, mul-le-mul narrow few)
 
-    pub ends : length file ≡ at + h.tests + (4 + width) * count
+    pub ends : length file ≡ at + h.tests + width * count
     ends = omega (arith, ends_at kind file whole.header_kept whole.body_kept, size, tested_there)
 
     pub room_there : count ≤ room

@@ -8,6 +8,7 @@ ghost use Rattle.plan_records.specs.Records.{limit_in, part_from};
 
 use files::headers::PlanHeader;
 use heads::Head;
+use plan_records::limit_width;
 use plans::Limit;
 use times::Time;
 
@@ -31,7 +32,7 @@ pub(crate) fn fill_limits<T: Time>(file: &[u8], at: usize, count: usize, limits:
     ensures rest { drop count limits.new ≡ drop count limits.old }
 {
     for (j, slot) in limits[..count].iter_mut().enumerate() {
-        *slot = limit_at(file, at + (4 + T::width()) * j);
+        *slot = limit_at(file, at + limit_width(T::kind()) * j);
     }
 }
 

@@ -8,6 +8,7 @@ ghost use Rattle.plan_reader.specs.Faults.{plan_refusal};
 
 use crate::faults::PlanFault;
 use crate::records::Records;
+use files::headers::PLAN_HEADER_LENGTH;
 use times::Kind;
 
 // The run of names of a plan file, as its part of the file.
@@ -17,7 +18,7 @@ pub fn read_names(file: &[u8], kind: Kind) -> Result<&[u8], PlanFault>
     let records = Records::open(file, kind)?;
     let points = usize::from(records.header().points);
     let end = records.place_after(points)?;
-    Ok(part(file, 17, end))
+    Ok(part(file, PLAN_HEADER_LENGTH, end))
 }
 
 // The name of a point, without its length byte, or none where the plan has no such point.

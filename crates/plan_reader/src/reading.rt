@@ -9,6 +9,7 @@ use crate::checks::check_file;
 use crate::faults::PlanFault;
 use crate::filling::{fill_limits, head_at};
 use heads::Head;
+use plan_records::limit_width;
 use plans::Limit;
 use times::Time;
 
@@ -27,7 +28,7 @@ pub fn read_plan<T: Time>(
 {
     let header = check_file::<T>(file, limits.len())?;
     let count = usize::from(header.limits);
-    let first = file.len() - (4 + T::width()) * count;
+    let first = file.len() - limit_width(T::kind()) * count;
     let tests = first - usize::from(header.tests);
     *head = head_at(file, &header, tests);
     fill_limits(file, first, count, limits);

@@ -36,6 +36,10 @@ abbrev pub limit_in : Kind → List ℕ → ℕ → Limit Moment
 limit_in kind file at =
     record { from = slice_index file at; to = slice_index file (at + 1); wanted = slice_index file (at + 2); unwanted = slice_index file (at + 3); bound = time_at kind file (at + 4) }
 
+-- how many bytes a limit takes: two points, two sets of letters and a bound
+abbrev pub limit_width : Kind → ℕ
+limit_width kind = 4 + width_of kind
+
 module _ (header : PlanHeader) where
   abbrev pub kind : Kind
   kind = header.version
@@ -74,7 +78,7 @@ module _ (header : PlanHeader) where
     abbrev pub size_of : Sort → ℕ → ℕ
     size_of a_name at = name_size file at
     size_of a_test at = 1
-    size_of a_limit at = 4 + width_of kind
+    size_of a_limit at = limit_width kind
     size_of the_end at = 0
 
     -- a record at a place, and none at the end

@@ -11,3 +11,4 @@ mod sizes;
 pub use faults::RecordFault;
 pub use names::check_names;
 pub use readers::{Reader, Record};
+pub use sizes::limit_width;

@@ -63,6 +63,7 @@ pub(crate) fn rest_from(bytes: &[u8], at: usize) -> &[u8]
 }
 
 // The name with a number, at a place among the names that lie one after another from a start on.
+// Each method reads the length byte anew: a length handed along would need a clause in each that ties it to the byte.
 #[derive(Clone, Copy)]
 pub(crate) struct NameAt<'a> {
     pub(crate) bytes: &'a [u8],

@@ -8,7 +8,7 @@ ghost use Rattle.plan_records.specs.Readers.{Opened, after, next_answer, opened_
 
 use crate::faults::RecordFault;
 use crate::sizes::Sort;
-use files::headers::{HeaderFault, PlanHeader, read_plan_header_of};
+use files::headers::{HeaderFault, PLAN_HEADER_LENGTH, PlanHeader, read_plan_header_of};
 use times::Kind;
 
 // A plan file, what its header says, how many records have been read, and the place of the next.
@@ -42,7 +42,7 @@ impl<'a> Reader<'a> {
             file,
             header,
             taken: 0,
-            place: 17,
+            place: PLAN_HEADER_LENGTH,
         })
     }
 

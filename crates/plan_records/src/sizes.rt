@@ -5,15 +5,17 @@ ghost use Rattle.fields.specs.Fields.{checked};
 ghost use Rattle.fields.specs.Laid.{passing};
 ghost use Rattle.plan_records.specs.Faults.{record_refusal};
 ghost use Rattle.plan_records.specs.Names.{name_fields, name_size};
-ghost use Rattle.plan_records.specs.Records.{a_limit, a_test, fields_of, first_place, fitting_field, size_of, sort_of};
+ghost use Rattle.plan_records.specs.Records.{a_limit, a_test, fields_of, first_place, fitting_field, limit_width, size_of, sort_of};
 ghost use Rattle.plan_records.specs.Sorts.{meant};
 
 use crate::bounds::check_bound;
 use crate::faults::RecordFault;
 use crate::names::{NameAt, check_end, rest_from};
 use crate::readers::Reader;
+use files::headers::PLAN_HEADER_LENGTH;
 use heads::is_test;
 use plans::{Limit, is_fitting};
+use times::Kind;
 
 // What a record is.
 #[derive(Clone, Copy, PartialEq, Eq, Debug)]
@@ -21,6 +23,13 @@ pub(crate) enum Sort {
     Name,
     Test,
     Limit,
+}
+
+// How many bytes a limit takes in a file: two points, two sets of letters and a bound.
+pub fn limit_width(kind: Kind) -> usize
+    ensures { result ≡ limit_width kind }
+{
+    4 + kind.width()
 }
 
 impl Reader<'_> {
@@ -63,7 +72,7 @@ impl Reader<'_> {
     {
         let name = NameAt {
             bytes: self.file,
-            start: 17,
+            start: PLAN_HEADER_LENGTH as u8,
             number: self.taken as u8,
             at: self.place,
         };
@@ -89,7 +98,7 @@ impl Reader<'_> {
     {
         self.check_fitting()?;
         check_bound(self.file, &self.header, self.place + 4)?;
-        Ok(4 + self.header.version.width())
+        Ok(limit_width(self.header.version))
     }
 
     // Whether the points and letters of the limit are those of the plan.

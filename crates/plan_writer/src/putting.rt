@@ -9,6 +9,8 @@ ghost use Rattle.plan_contents.specs.Contents.{count_bytes, header_bytes, limit_
 ghost use Rattle.plan_writer.specs.Lent.{contents_in};
 
 use crate::sources::Source;
+use files::headers::{PLAN_HEADER_LENGTH, PLAN_MARK};
+use plan_records::limit_width;
 use plans::Limit;
 use times::Time;
 
@@ -20,8 +22,8 @@ impl<T: Time> Source<'_, T> {
         ensures coded { AllByRecursion (λ l. OfKind T.Time.kind l.bound) (contents_in T.Time.moment self.now).limits }
     {
         self.put_header(file);
-        let names_end = 17 + self.names.len();
-        file[17..names_end].copy_from_slice(self.names);
+        let names_end = PLAN_HEADER_LENGTH + self.names.len();
+        file[PLAN_HEADER_LENGTH..names_end].copy_from_slice(self.names);
         let tests_end = names_end + usize::from(self.head.letters());
         file[names_end..tests_end].copy_from_slice(self.head.tests());
         put_limits(self.limits, tests_end, file);
@@ -43,10 +45,11 @@ impl<T: Time> Source<'_, T> {
     {
         let [high, low] = T::version().to_be_bytes();
         let [many, few] = (self.limits.len() as u16).to_be_bytes();
+        let [_, a, b, c] = PLAN_MARK.to_be_bytes();
         let counts = [
-            0x44,
-            0x50,
-            0x4E,
+            a,
+            b,
+            c,
             high,
             low,
             self.head.points(),
@@ -57,6 +60,9 @@ impl<T: Time> Source<'_, T> {
         file[0..9].copy_from_slice(&counts);
     }
 }
+
+// The writers below take a place and the file, and no struct that moves along: its place before and after each part
+// would stand in every contract.
 
 fn put_word(word: u32, place: usize, file: &mut [u8])
     requires { place + 4 ≤ length file.old }
@@ -73,7 +79,7 @@ fn put_limits<T: Time>(limits: &[Limit<T>], place: usize, file: &mut [u8])
     ensures coded { AllByRecursion (λ l. OfKind T.Time.kind l.bound) (map (limit_of T.Time.moment) limits.now) }
 {
     for (j, limit) in limits.iter().enumerate() {
-        put_limit(*limit, place + (4 + T::width()) * j, file);
+        put_limit(*limit, place + limit_width(T::kind()) * j, file);
     }
 }
 

@@ -11,8 +11,9 @@ ghost use Rattle.plan_writer.specs.Lent.{contents_in, contents_of, lent_answer};
 
 use crate::faults::PlanWriteFault;
 use crate::sources::Source;
+use files::headers::PLAN_HEADER_LENGTH;
 use heads::Head;
-use plan_records::check_names;
+use plan_records::{check_names, limit_width};
 use plans::{Limit, check_limits};
 use refusals::check_room;
 use times::Time;
@@ -60,8 +61,9 @@ impl<'a, T: Time> Source<'a, T> {
     fn length(&self) -> usize
         ensures { result ≡ plan_length T.Time.kind (contents_in T.Time.moment self.now) }
     {
-        17 + self.names.len()
+        PLAN_HEADER_LENGTH
+            + self.names.len()
             + usize::from(self.head.letters())
-            + (4 + T::width()) * self.limits.len()
+            + limit_width(T::kind()) * self.limits.len()
     }
 }

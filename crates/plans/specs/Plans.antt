@@ -29,9 +29,16 @@ holds row i = has row i
 abbrev pub Step : Plan → ℕ → ℕ → Type 0
 Step p row x = x < p.points
 
--- where a table keeps the time of a point in a row: by row, and then by point
+-- a table of so many points and letters has a time for each point in each row
+abbrev pub size_for : ℕ → ℕ → ℕ
+size_for n k = 2 ^ k * n
+
+-- where a table of so many points keeps the time of a point in a row: by row, and then by point
+abbrev pub place_for : ℕ → ℕ → ℕ → ℕ
+place_for n row x = row * n + x
+
 abbrev pub place : Plan → ℕ → ℕ → ℕ
-place p row x = row * p.points + x
+place p row x = place_for p.points row x
 
 abbrev pub origin : Moment
 origin = whole (pos 0)

@@ -10,7 +10,7 @@ ghost use Rattle.times.specs.Moments.{bound_rule};
 
 use crate::faults::MemoryFault;
 use crate::limits::Limit;
-use crate::pairs::Pair;
+use crate::pairs::{Pair, table_place, table_size};
 use heads::Head;
 use time_rules::{is_at_zero, is_bound, is_table_time};
 use times::Time;
@@ -48,7 +48,7 @@ fn check_limit_count<T: Time>(limits: &[Limit<T>]) -> Result<(), MemoryFault>
 fn check_time_count<T: Time>(pair: &Pair<T>) -> Result<(), MemoryFault>
     ensures { answer_of (λ u. u) memory_fault result ≡ unless (count_refusal (plan_in T.Time.moment pair.now) (table_in T.Time.moment pair.now)) tt }
 {
-    if pair.times.len() != usize::from(pair.head.rows()) * usize::from(pair.head.points()) {
+    if pair.times.len() != table_size(pair.head) {
         return Err(MemoryFault::CountOfTimes);
     }
     Ok(())
@@ -110,7 +110,7 @@ fn check_time<T: Time>(pair: &Pair<T>, row: u8, point: u8) -> Result<(), MemoryF
     ensures { answer_of (λ u. u) memory_fault result ≡ unless (time_refusal (plan_in T.Time.moment pair.now) (table_in T.Time.moment pair.now) row point) tt }
 {
     if !is_allowed(point, pair.time(row, point)) {
-        return Err(MemoryFault::Time(pair.place(row, point)));
+        return Err(MemoryFault::Time(table_place(pair.head, row, point)));
     }
     Ok(())
 }

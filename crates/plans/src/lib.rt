@@ -10,4 +10,4 @@ mod pairs;
 pub use checks::{check_limits, check_pair, is_allowed, is_fitting};
 pub use faults::MemoryFault;
 pub use limits::Limit;
-pub use pairs::Pair;
+pub use pairs::{Pair, table_place, table_size};

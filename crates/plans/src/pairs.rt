@@ -1,6 +1,6 @@
 // A plan and a table, as a call is lent them.
 ghost use Rattle.std.specs.Prelude.{◌≡◌};
-ghost use Rattle.plans.specs.Plans.{moment, place};
+ghost use Rattle.plans.specs.Plans.{moment, place_for, size_for};
 ghost use Rattle.plans.specs.Lent.{plan_in, table_in};
 
 use crate::limits::Limit;
@@ -22,15 +22,22 @@ impl<T: Time> Pair<'_, T> {
         ensures { T.Time.moment result ≡ moment (plan_in T.Time.moment self.now) (table_in T.Time.moment self.now) row point }
     {
         self.times
-            .get(self.place(row, point))
+            .get(table_place(self.head, row, point))
             .copied()
             .unwrap_or_else(|| whole_ticks(0))
     }
+}
 
-    // Where the table keeps the time of a point in a row.
-    pub(crate) fn place(&self, row: u8, point: u8) -> usize
-        ensures { result ≡ place (plan_in T.Time.moment self.now) row point }
-    {
-        usize::from(row) * usize::from(self.head.points()) + usize::from(point)
-    }
+// How many times a table has beside a head: one for each point in each row.
+pub fn table_size(head: &Head) -> usize
+    ensures { result ≡ size_for head.now.points head.now.letters }
+{
+    usize::from(head.rows()) * usize::from(head.points())
+}
+
+// Where it keeps the time of a point in a row.
+pub fn table_place(head: &Head, row: u8, point: u8) -> usize
+    ensures { result ≡ place_for head.now.points row point }
+{
+    usize::from(row) * usize::from(head.points()) + usize::from(point)
 }

@@ -1,4 +1,4 @@
-// Open.
+// How a run begins: the whole pair is checked and judged.
 ghost use Rattle.std.specs.Prelude.{◌≡◌, IfOk};
 ghost use Rattle.refusals.specs.Answers.{answer_of, given};
 ghost use Rattle.plans.specs.Lent.{plan_in, table_in};

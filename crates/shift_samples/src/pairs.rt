@@ -36,6 +36,7 @@ fn says<'a, R: Rule>(
 
 // Two rows of three points, with test 0 at point 1, and the rows when they are shifted: each pair is judged
 // by the rule of its own head, and the shifted one by the rule below the delay too.
+// Each value stands once in a case: a struct would only name what the cases give in order.
 fn stays<R: Rule>(
     rt: &impl Abort,
     round: u32,

@@ -1,4 +1,4 @@
-// What the tests are written with.
+// What the tests are written with. Three small functions stand in `samples` too: a crate for them would be no plainer.
 use fine::Fine;
 use heads::Head;
 use plans::{Limit, Pair};

@@ -1,4 +1,4 @@
-// The call.
+// A delayed pair made into one without delay.
 ghost use Rattle.std.specs.Prelude.{◌≡◌, length, take, IfOk};
 ghost use Rattle.refusals.specs.Answers.{answer_of};
 ghost use Rattle.heads.specs.Heads.{outline_of};

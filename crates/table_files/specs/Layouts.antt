@@ -7,11 +7,8 @@ use Rattle.files.specs.Headers.{table_mark}
 use Rattle.times.specs.declared.codings.Kind.{Kind}
 use Rattle.times.specs.Coding.{version_of, width_of, time_at}
 use Rattle.plans.specs.Memory.{allowed}
+use Rattle.plans.specs.Plans.{size_for, place_for}
 use Rattle.heads.specs.declared.Head.{Head}
-
--- a table of so many points and tests has a time for each point in each row
-abbrev pub size_for : ℕ → ℕ → ℕ
-size_for n k = 2 ^ k * n
 
 abbrev pub table_size : Head → ℕ
 table_size head = size_for head.points head.letters
@@ -31,7 +28,7 @@ module _ (kind : Kind) (n k : ℕ) where
     -- 1, 9: the time of a point in a row, whose rule is one of the moment at its place
     abbrev pub time_for : ℕ → ℕ → Field
     time_for row x =
-        let place = time_place kind (row * n + x) in
+        let place = time_place kind (place_for n row x) in
         record { from = place; width = width_of kind; number = 9; keeps = λ _. allowed x (time_at kind file place) }
 
     abbrev pub row_for : ℕ → List Field

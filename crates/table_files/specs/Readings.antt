@@ -9,7 +9,8 @@ use Rattle.times.specs.Coding.{time_at}
 use Rattle.times.specs.Moments.{Moment}
 use Rattle.refusals.specs.Searches.{when}
 use Rattle.heads.specs.declared.Head.{Head}
-use Rattle.table_files.specs.Layouts.{size_for, table_size, time_place, header_fields_for, body_for, header_fields, body_fields}
+use Rattle.plans.specs.Plans.{size_for}
+use Rattle.table_files.specs.Layouts.{table_size, time_place, header_fields_for, body_for, header_fields, body_fields}
 
 abbrev pub counted : {X : Type 0} → Answer (List X) → Answer ℕ
 counted a = and_then a (λ xs. given (length xs))

@@ -1,18 +1,11 @@
 // Where the fields of a table file lie.
 ghost use Rattle.std.specs.Prelude.{◌≡◌, ◌^◌, ◌<◌};
 ghost use Rattle.files.specs.Headers.{table_fields};
-ghost use Rattle.table_files.specs.Layouts.{header_fields, table_size, time_place};
+ghost use Rattle.table_files.specs.Layouts.{header_fields, time_place};
 
 use files::headers::PlanHeader;
 use heads::Head;
 use times::Time;
-
-// How many times a table of the plan has.
-pub(crate) fn table_size(head: &Head) -> usize
-    ensures { result ≡ table_size head.now }
-{
-    usize::from(head.rows()) * usize::from(head.points())
-}
 
 // The place of the time with a number. That of the first time that is not there is the file's length.
 // The bound stays a `requires`: each caller knows it of another number, and a type for such a number is no plainer.

@@ -11,10 +11,10 @@ ghost use Rattle.table_files.specs.Readings.{Filled, ReadSays, RefusesExactly, c
 ghost use Rattle.table_files.specs.Trips.{Checked, ReadExactly, Ready, WritesBack};
 
 use crate::faults::TableFault;
-use crate::layout::{plan_header, table_size, time_place};
+use crate::layout::{plan_header, time_place};
 use files::headers::check_table_header;
 use heads::Head;
-use plans::is_allowed;
+use plans::{is_allowed, table_place, table_size};
 use refusals::check_room;
 use times::{Time, TimeFault};
 
@@ -82,7 +82,7 @@ impl Source<'_> {
     fn check_time<T: Time>(&self, row: u8, point: u8) -> Result<(), TimeFault>
         ensures { answer_of (λ u. u) time_refusal result ≡ passing self.now.file.now (table_time T.Time.kind self.now.head.now self.now.file.now row point ∷ []) }
     {
-        let number = usize::from(row) * usize::from(self.head.points()) + usize::from(point);
+        let number = table_place(self.head, row, point);
         let place = time_place::<T>(number);
         let time: T = T::decode(self.file, place)?;
         check_rule(point, place, time)

@@ -14,6 +14,7 @@ ghost use Rattle.table_files.specs.Writings.{WriteSays, bare, header_bytes, writ
 
 use crate::faults::WriteFault;
 use crate::layout::time_place;
+use files::headers::TABLE_MARK;
 use heads::Head;
 use plans::{MemoryFault, Pair, check_pair};
 use refusals::check_room;
@@ -52,7 +53,8 @@ fn put_header<T: Time>(head: &Head, file: &mut [u8])
     ensures { file.new ≡ paste file.old 0 (header_bytes T.Time.kind head.now) 7 }
 {
     let [high, low] = T::version().to_be_bytes();
-    let bytes = [0x52, 0x55, 0x4E, high, low, head.points(), head.letters()];
+    let [_, a, b, c] = TABLE_MARK.to_be_bytes();
+    let bytes = [a, b, c, high, low, head.points(), head.letters()];
     file[0..7].copy_from_slice(&bytes);
 }
 

@@ -7,7 +7,7 @@ ghost use Rattle.times.specs.Moments.{bound_rule, is_zero, moment_of, same_momen
 
 use times::{Coded, Time};
 
-// The ticks and the grains of a time of any kind.
+// The ticks and the grains of a time of any kind. Not `Fine`: a time of another kind need not be one of the fine kind.
 #[derive(Clone, Copy, PartialEq, Eq)]
 struct Parts {
     ticks: i32,

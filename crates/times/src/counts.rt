@@ -14,6 +14,7 @@ impl Ticks {
     pub fn new(count: u32) -> Option<Ticks>
         ensures { option_map (λ (t : Ticks). t.count) result ≡ ticks_of count }
     {
+        // not `then`: its closure would not know that the count is in bounds
         if count <= 1_000_000_000 {
             Some(Ticks { count })
         } else {
@@ -33,7 +34,7 @@ impl Ticks {
     {
         let Ticks { count, .. } = *self;
         let sum = i64::from(ticks) + i64::from(count);
-        if sum < -1_000_000_000 || sum > 1_000_000_000 {
+        if !(-1_000_000_000..=1_000_000_000).contains(&sum) {
             return None;
         }
         Some(sum as i32)
