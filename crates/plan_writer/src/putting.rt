@@ -78,6 +78,7 @@ fn put_limits<T: Time>(limits: &[Limit<T>], place: usize, file: &mut [u8])
     ensures bytes { file.new ≡ paste file.old place (flat_map (limit_bytes T.Time.kind) (map (limit_of T.Time.moment) limits.now)) ((4 + width_of T.Time.kind) * length limits.now) }
     ensures coded { AllByRecursion (λ l. OfKind T.Time.kind l.bound) (map (limit_of T.Time.moment) limits.now) }
 {
+    // Tried `zip` with `chunks_exact_mut`: after it only the length of the cut slice is known; `bytes` does not close.
     for (j, limit) in limits.iter().enumerate() {
         put_limit(*limit, place + limit_width(T::kind()) * j, file);
     }

@@ -64,6 +64,7 @@ fn put_times<T: Time>(times: &[T], file: &mut [u8])
     ensures bytes { file.new ≡ paste file.old 7 (flat_map (time_bytes T.Time.kind) (map T.Time.moment times.now)) (width_of T.Time.kind * length times.now) }
     ensures coded { AllByRecursion (OfKind T.Time.kind) (map T.Time.moment times.now) }
 {
+    // Tried `zip` with `chunks_exact_mut`: after it only the length of the cut slice is known; `bytes` does not close.
     for (i, time) in times.iter().enumerate() {
         let place = time_place::<T>(i);
         file[place..place + T::width()].copy_from_slice(time.encode().as_slice());
