@@ -23,7 +23,8 @@ impl<T: Time> KeptPair<'_, T> {
         fill(limits, self.count_limits(), |j| self.limit_at(j));
     }
 
-    // The limit with a number: an old one, or one of the two of a test.
+    // The limit with a number: an old one, or one of the two of a test. Not by `chunks_exact_mut`, here and below: after
+    // it only the length of what it cut is known.
     fn limit_at(&self, j: usize) -> Limit<T>
         requires { j < limits_size (plan_in T.Time.moment self.now.pair) }
         ensures { limit_of T.Time.moment result ≡ limit_at (shifted_plan (plan_in T.Time.moment self.now.pair) (delay_in self.now.pair)) j }
