@@ -31,24 +31,29 @@ pub(crate) fn fill_limits<T: Time>(file: &[u8], at: usize, count: usize, limits:
     ensures front { map (limit_of T.Time.moment) (take count limits.new) ≡ laid count (λ j. limit_in T.Time.kind file.now (at + (4 + width_of T.Time.kind) * j) ∷ []) }
     ensures rest { drop count limits.new ≡ drop count limits.old }
 {
-    for (j, slot) in limits[..count].iter_mut().enumerate() {
-        *slot = limit_at(file, at + limit_width(T::kind()) * j);
+    // by index: after a zip with iter_mut a proof knows nothing of the elements
+    let parts = file[at..].chunks_exact(limit_width(T::kind()));
+    for (j, part) in parts.take(count).enumerate() {
+        limits[j] = read_limit(part);
     }
 }
 
-// The limit at a place.
-fn limit_at<T: Time>(file: &[u8], at: usize) -> Limit<T>
-    requires { at + (4 + width_of T.Time.kind) ≤ length file.now }
-    ensures { limit_of T.Time.moment result ≡ limit_in T.Time.kind file.now at }
+// The limit that a part of a file holds.
+fn read_limit<T: Time>(part: &[u8]) -> Limit<T>
+    requires { length part.now ≡ 4 + width_of T.Time.kind }
+    ensures { limit_of T.Time.moment result ≡ limit_in T.Time.kind part.now 0 }
 {
-    let Ok(bound) = T::decode(file, at + 4) else {
+    let [from, to, wanted, unwanted, bound @ ..] = part else {
+        unreachable()
+    };
+    let Ok(bound) = T::decode(bound, 0) else {
         unreachable()
     };
     Limit {
-        from: file[at],
-        to: file[at + 1],
-        wanted: file[at + 2],
-        unwanted: file[at + 3],
+        from: *from,
+        to: *to,
+        wanted: *wanted,
+        unwanted: *unwanted,
         bound,
     }
 }
