@@ -16,16 +16,16 @@ pub const TIMES: [Whole; 6] = [
     Whole { ticks: 7 },
 ];
 
-pub fn whole(ticks: i32) -> Whole {
+pub(crate) fn whole(ticks: i32) -> Whole {
     Whole { ticks }
 }
 
-pub fn fine(ticks: i32, grains: i32) -> Fine {
+pub(crate) fn fine(ticks: i32, grains: i32) -> Fine {
     Fine { ticks, grains }
 }
 
 // A file with one byte changed.
-pub fn changed<const N: usize>(file: [u8; N], at: usize, byte: u8) -> [u8; N] {
+pub(crate) fn changed<const N: usize>(file: [u8; N], at: usize, byte: u8) -> [u8; N] {
     let mut file = file;
     if let Some(place) = file.get_mut(at) {
         *place = byte;

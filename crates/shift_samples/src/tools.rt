@@ -8,15 +8,15 @@ use std::process::Abort;
 use times::Time;
 use whole::Whole;
 
-pub fn whole(ticks: i32) -> Whole {
+pub(crate) fn whole(ticks: i32) -> Whole {
     Whole { ticks }
 }
 
-pub fn fine(ticks: i32, grains: i32) -> Fine {
+pub(crate) fn fine(ticks: i32, grains: i32) -> Fine {
     Fine { ticks, grains }
 }
 
-pub fn limit<T: Time>(from: u8, to: u8, bound: T) -> Limit<T> {
+pub(crate) fn limit<T: Time>(from: u8, to: u8, bound: T) -> Limit<T> {
     Limit {
         from,
         to,
@@ -27,7 +27,7 @@ pub fn limit<T: Time>(from: u8, to: u8, bound: T) -> Limit<T> {
 }
 
 // A pair with no limits.
-pub fn pair_of<'a, T>(head: &'a Head, times: &'a [T]) -> Pair<'a, T> {
+pub(crate) fn pair_of<'a, T>(head: &'a Head, times: &'a [T]) -> Pair<'a, T> {
     Pair {
         head,
         limits: &[],
@@ -36,7 +36,7 @@ pub fn pair_of<'a, T>(head: &'a Head, times: &'a [T]) -> Pair<'a, T> {
 }
 
 // What stands in an array before a call.
-pub fn blank() -> Limit<Whole> {
+pub(crate) fn blank() -> Limit<Whole> {
     Limit {
         from: 9,
         to: 9,
@@ -46,13 +46,13 @@ pub fn blank() -> Limit<Whole> {
     }
 }
 
-pub fn is_limit(rt: &impl Abort, limit: &Limit<Whole>, from: u8, to: u8, bound: i32) {
+pub(crate) fn is_limit(rt: &impl Abort, limit: &Limit<Whole>, from: u8, to: u8, bound: i32) {
     assert_eq!(rt; (limit.from, limit.to), (from, to));
     assert_eq!(rt; (limit.wanted, limit.unwanted), (0, 0));
     assert_eq!(rt; limit.bound.ticks, bound);
 }
 
-pub fn are_blank(rt: &impl Abort, limits: &[Limit<Whole>]) {
+pub(crate) fn are_blank(rt: &impl Abort, limits: &[Limit<Whole>]) {
     for limit in limits {
         assert_eq!(rt; (limit.from, limit.to), (9, 9));
         assert_eq!(rt; (limit.wanted, limit.unwanted), (9, 9));
@@ -61,7 +61,7 @@ pub fn are_blank(rt: &impl Abort, limits: &[Limit<Whole>]) {
 }
 
 // The refusal with a number and a place.
-pub fn refused<T: Time>(
+pub(crate) fn refused<T: Time>(
     rt: &impl Abort,
     pair: &Pair<T>,
     limits: &mut [Limit<T>],
@@ -74,7 +74,7 @@ pub fn refused<T: Time>(
 }
 
 // The outline of a head with one test.
-pub fn is_outlined(rt: &impl Abort, head: &Head, points: u8, test: u8, round: u32) {
+pub(crate) fn is_outlined(rt: &impl Abort, head: &Head, points: u8, test: u8, round: u32) {
     assert_eq!(rt;
         (head.points(), head.letters(), head.point(0)),
         (points, 1, test)
