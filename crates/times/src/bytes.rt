@@ -24,10 +24,14 @@ impl Coded {
 }
 
 // So many bytes of a file from a place on, or none where it ends before.
+// The length is asked for before the file is cut: with `file.get(at..)?` a loop over a table's times took twice the time.
 pub fn bytes_at<const N: usize>(file: &[u8], at: usize) -> Option<[u8; N]>
     ensures { result ≡ part_at file.now at N }
 {
-    file.get(at..)?.first_chunk().copied()
+    if at > file.len() || file.len() - at < N {
+        return None;
+    }
+    file[at..].first_chunk().copied()
 }
 
 // The integer of a file whose first byte is at a place.
