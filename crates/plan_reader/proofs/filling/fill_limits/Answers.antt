@@ -1,4 +1,4 @@
-use Rattle.std.proofs.Common.{◌≡◌, ℕ, zero, suc, ◌+◌, ◌*◌, ◌<◌, length, length-set, sym, ap, ◌∙◌, arith, rules, refl, drop}
+use Rattle.std.proofs.Common.{◌≡◌, ℕ, zero, suc, ◌+◌, ◌*◌, ◌<◌, length, length-set, sym, ap, ◌∙◌, arith, rules, refl, map, take, drop, slice_set}
 use Rattle.std.proofs.lemmas.List.{drop-set-lt, length-drop, take_all}
 use Rattle.std.specs.Slice.Iter.{chunks_exact_rest}
 use Rattle.times.specs.Coding.{width_of}
@@ -42,7 +42,11 @@ loop-j-preserved g c =
     let long = s.0.0.1.1 ∙ i.2 in
     let here = c.read_limit.ensures ∙ limit_here t.kind file place c.in-Some.part.now _ cut long (λ i. (c.type_inv.file i).fits) in
     let inside : k < length c.loop-j.limits = omega (arith, s.0.1, i.0, i.1, c.requires.1) in
-    rw s.2 (rw s.1 (length-set c.loop-j.limits k c.read_limit.result ∙ i.0, omega (arith, s.0.1, i.1), s.0.0.0 ∙ i.2, rest_here t.kind file place _ _ cut long ∙ ap (λ p. drop p file) (next_place t.kind c.args.at k), store_more (limit_of t.moment) f k c.loop-j.limits c.read_limit.result inside here i.4, drop-set-lt c.args.count c.loop-j.limits k c.read_limit.result (omega (arith, s.0.1, i.1)) ∙ i.5))
+    let n = c.in-Some.j in
+    let x = c.read_limit.result in
+    let stored = ap (λ j. map (limit_of t.moment) (take (k + 1) (slice_set c.loop-j.limits j x))) s.1 ∙ store_more (limit_of t.moment) f k c.loop-j.limits x inside here i.4 in
+    let kept = ap (λ j. drop c.args.count (slice_set c.loop-j.limits j x)) s.1 ∙ drop-set-lt c.args.count c.loop-j.limits k x (omega (arith, s.0.1, i.1)) ∙ i.5 in
+    rw s.2 (length-set c.loop-j.limits n x ∙ i.0, omega (arith, s.0.1, i.1), s.0.0.0 ∙ i.2, rest_here t.kind file place _ _ cut long ∙ ap (λ p. drop p file) (next_place t.kind c.args.at k), stored, kept)
 
 all_read : (n : ℕ) → (0 < n → ⊥) → n ≡ 0
 all_read zero h = refl
