@@ -52,6 +52,9 @@ module _ (names : List ℕ) (n : ℕ) (kept : AllKept names (run_fields names n)
   short zero l = omega arith
   short (suc i) l = omega (arith, short i (omega arith), short_name i (omega arith))
 
+  pub names_short : length names ≤ 17 * n
+  names_short = omega (arith, full, short n (omega arith))
+
 -- what is refused of limits, from what is said of them
 
 module _ (p : Plan) where

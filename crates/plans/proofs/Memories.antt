@@ -64,6 +64,9 @@ module _ (p : Plan) (ts : List Moment) where
   none_times kept = none_first (rows p) _ (λ row h. none_first p.points (time_refusal p ts row) (λ x l. none_passed _ _ (kept.each row x h l)))
 
   -- of a call that takes times alone
+  pub times_kept_from : or_else (count_refusal p ts) (times_refusal p ts) ≡ None → TimesKept p ts
+  times_kept_from e = let both = or_none _ _ e in kept_times both.0 both.1
+
   pub none_from_times : TimesKept p ts → or_else (count_refusal p ts) (times_refusal p ts) ≡ None
   none_from_times kept = none_or _ _ (none_count kept) (none_times kept)
 
